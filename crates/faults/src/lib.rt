@@ -1,0 +1,4 @@
+// Every refusal of the engine, in one closed list.
+
+pub mod fault;
+pub mod told;

@@ -1,0 +1,9 @@
+pub mod Advance
+pub mod Begun
+pub mod Bytes
+pub mod Fronts
+pub mod OneCut
+pub mod Progress
+pub mod Quotes
+pub mod Steps
+pub mod Unique

@@ -1,0 +1,4 @@
+pub mod Kinds
+pub mod Lexeme
+pub mod Pieces
+pub mod Reader
