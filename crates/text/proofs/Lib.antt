@@ -2,3 +2,4 @@ pub mod Accepting
 pub mod Noting
 pub mod Pushes
 pub mod Scanning
+pub mod Places

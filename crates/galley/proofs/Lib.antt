@@ -1,0 +1,5 @@
+pub mod Loading
+pub mod Taking
+pub mod Writing
+pub mod Standing
+pub mod LaidOut

@@ -1,0 +1,74 @@
+-- What read answers, and what the galley then holds.
+--   short      the first memory that is too short for these tokens, tried as bytes, pieces, nodes, chart
+--   Read       what reading the tokens answers
+--   Took       what taking over a text's tokens answers: that refusal, no reading, or the pieces held
+--   barred     the first reason not to try: a laid galley, no such symbol, the text's own fault, short memory
+--   Settled    that refusal with the galley as it was, no reading likewise, or the text's pieces held and unlaid
+use mathlib.Core.Path.{_≡_}
+use mathlib.Core.Bool.{cond}
+use mathlib.Core.List.{List}
+use Prim.Native.Nat.{ℕ}
+use lib.Dec.{ltb}
+use lib.ListN.{length}
+use Rattle.std.specs.declared.option.Option.{Option}
+use Rattle.std.specs.declared.option.Option.the-variants.{Some, None}
+use Rattle.std.specs.Options.{isSome}
+use Rattle.std.specs.declared.result.Result.{Result}
+use Rattle.std.specs.declared.result.Result.the-variants.{Ok, Err}
+use Rattle.std.specs.Runs.{nth}
+use Rattle.faults.specs.declared.fault.Fault.{Fault}
+use Rattle.faults.specs.declared.fault.Fault.the-variants.{AlreadyLaid, GrammarMismatch, ShortMemory, NoReading}
+use Rattle.faults.specs.declared.fault.Memory.the-variants.{Bytes, Pieces}
+use Rattle.grammar.specs.Model.{Model}
+use Rattle.text.specs.declared.token.Token.{Token}
+use Rattle.text.specs.Verdict.{Verdict, accepted, refused}
+use Rattle.chart.specs.Answer.{unfit, place-of}
+use Rattle.tree.specs.declared.node.Node.{Node}
+use Rattle.galley.specs.declared.held.Store.{Store}
+use Rattle.galley.specs.declared.held.Held.{Held}
+use Rattle.galley.specs.declared.galley.Galley.{Galley}
+use Rattle.galley.specs.Stores.{front, room, Fits}
+use Rattle.galley.specs.Views.{Unchanged}
+use Rattle.galley.specs.Loads.{bytes-of, byte-count, records-of}
+
+abbrev pub short : Model → ℕ → Held → List Token → ℕ → Option Fault
+short G symbol h ts cells =
+    cond (ltb (room (h .bytes)) (byte-count ts)) (Some (ShortMemory Bytes))
+    (cond (ltb (room (h .pieces)) (length ts)) (Some (ShortMemory Pieces))
+    (unfit G symbol (length ts) (room (h .nodes)) cells))
+
+-- no reading, at the place of one of the tokens
+abbrev pub NoReadingOf : List Token → Fault → Type 0
+NoReadingOf ts f = (p : ℕ) × (t : Token) × (nth ts p ≡ Some t) × (f ≡ NoReading (place-of t))
+
+-- the nodes of the first reading, in a memory of the same size, or a refusal with the memory as it was
+abbrev pub Read : Option Fault → List Token → Store Node → Result Unit Fault → Store Node → Type 0
+Read (Some f) ts s r t = (r ≡ Err f) × (t ≡ s)
+Read None ts s (Ok u) t = Fits t × (room t ≡ room s)
+Read None ts s (Err f) t = NoReadingOf ts f × (t ≡ s)
+
+-- the pieces of the text, in memories of the same size
+pub record Holds (text : List ℕ) (ts : List Token) (h k : Held) : Type 0 where
+  pub bytes : front (k .bytes) ≡ bytes-of text ts
+  pub pieces : front (k .pieces) ≡ records-of ts
+  pub byte-room : room (k .bytes) ≡ room (h .bytes)
+  pub piece-room : room (k .pieces) ≡ room (h .pieces)
+  pub node-room : room (k .nodes) ≡ room (h .nodes)
+
+abbrev pub Took : Option Fault → List ℕ → List Token → Held → Result Unit Fault → Held → Type 0
+Took (Some f) text ts h r k = (r ≡ Err f) × (k ≡ h)
+Took None text ts h (Ok u) k = Holds text ts h k
+Took None text ts h (Err f) k = NoReadingOf ts f × (k ≡ h)
+
+abbrev pub barred : Model → Galley → ℕ → Verdict → ℕ → Option Fault
+barred G x symbol v cells =
+    cond (isSome (x .laid)) (Some AlreadyLaid)
+    (cond (ltb symbol (G .nonterminals))
+    (elim v [ refused f ↦ Some f | accepted ts ↦ short G symbol (x .held) ts cells ])
+    (Some GrammarMismatch))
+
+abbrev pub Settled : Option Fault → Verdict → List ℕ → Galley → Result Unit Fault → Galley → Type 0
+Settled (Some f) v text x r y = (r ≡ Err f) × Unchanged x y
+Settled None (refused g) text x r y = ⊥
+Settled None (accepted ts) text x (Ok u) y = (y .number ≡ x .number) × (y .laid ≡ None) × Holds text ts (x .held) (y .held)
+Settled None (accepted ts) text x (Err f) y = NoReadingOf ts f × Unchanged x y
