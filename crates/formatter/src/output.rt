@@ -31,7 +31,7 @@ pub fn fault_line(heap: Global, fault: &Fault) -> Result<String, AllocError>
 
 // What the program prints for a text: the re-indented script, or the line of the fault.
 pub fn print_reindented(heap: Global, text: &[u8]) -> Result<Output, AllocError>
-    ensures { λ r. ⌜ made r Prints ⌝ }
+    ensures { λ r. ⌜ made r (Prints (now (text .entry))) ⌝ }
 {
     let mut out = [0; MOST];
     match reindent(text, &mut out) {

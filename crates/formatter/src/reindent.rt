@@ -2,6 +2,7 @@ ghost use mathlib.Core.Path.{_≡_};
 ghost use Prim.Native.Nat.{_≤_};
 ghost use lib.ListN.{length};
 ghost use Rattle.std.specs.Results.{Cases};
+ghost use Rattle.formatter.specs.Reindents.{Reindents};
 use faults::fault::Fault;
 use galley::galley::Galley;
 use grammar::block::Block;
@@ -27,7 +28,8 @@ const NODES: usize = 1785;
 
 // Reads a text as a script of the block language and writes it, re-indented, to the front of `out`; answers its length.
 pub fn reindent(text: &[u8], out: &mut [u8]) -> Result<usize, Fault>
-    ensures { λ r. ⌜ Cases r (λ n. n ≤ length (now (out .entry))) (λ _. now (out .exit) ≡ now (out .entry)) ⌝ }
+    ensures is { λ r. ⌜ Reindents (now (text .entry)) (now (out .entry)) r (now (out .exit)) ⌝ }
+    ensures fits { λ r. ⌜ Cases r (λ n. n ≤ length (now (out .entry))) (λ _. now (out .exit) ≡ now (out .entry)) ⌝ }
 {
     let mut chart = [0; CHART];
     let mut bytes = [0; BYTES];

@@ -28,7 +28,8 @@ pub standing-more : (ps : List PieceRecord) (qs : List Placement) (i : ℕ) (d :
 standing-more ps qs i d e h k = rw add-one (step ps qs i d e h k)
 
 -- no place is left, or no piece
-pub standing-all : (ps : List PieceRecord) (qs : List Placement) (i : ℕ) → min (length ps) (length qs) ≤ i → standing ps (take i qs) ≡ standing ps qs
+pub standing-all : (ps : List PieceRecord) (qs : List Placement) (i : ℕ) → min (length ps) (length qs) ≤ i → standing ps (take i qs) ≡
+    standing ps qs
 standing-all [] qs i h = refl
 standing-all (p ∷ ps) [] zero h = refl
 standing-all (p ∷ ps) [] (suc i) h = refl

@@ -88,7 +88,14 @@ took-over G symbol cells text ts list h k same inside few bytes pieces read used
     let pf : front (k .pieces) ≡ records-of ts = pfront ∙ ap records-of same in
     let bu : k .bytes .used ≡ byte-count ts = used ∙ ap byte-count same in
     let pu : k .pieces .used ≡ length ts = pused ∙ ap (λ (us : List Token). length us) same in (
-      took G symbol cells text ts h k b p read (record { bytes = bf; pieces = pf; byte-room = broom; piece-room = proom; node-room = nroom }),
+      took G symbol cells text ts h k b p read (record {
+        bytes = bf;
+        pieces = pf;
+        byte-room = broom;
+        piece-room = proom;
+        node-room =
+            nroom;
+      }),
       sound text ts k inside few nfit bu (omega arith) pu (omega arith) pf,
     )
 

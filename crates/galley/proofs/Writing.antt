@@ -62,7 +62,8 @@ module _ (s : Slip) (x : Galley) (old out t : List ℕ) (start : ℕ) (laid : is
       let q = part in
       let e = lacks-by (spend-fault s x) (leb (start + length (text-of x)) (length old)) (taken s x laid same) f in
       let all : putMid start (length old - start) old out ≡ old = cc in
-      subst (λ (o : Option Fault). Wrote o s x old start (Err (record { fault = NoRoom; slip = s })) y (putMid start (length old - start) old out))
+      subst (λ (o : Option Fault). Wrote o s x old start (Err (record { fault = NoRoom; slip = s })) y (putMid start (length old - start)
+      old out))
       (sym e) (refl, unchanged, all)
 
   -- it does
@@ -79,7 +80,11 @@ module _ (s : Slip) (x : Galley) (old out t : List ℕ) (start : ℕ) (laid : is
       let m : n ≡ length (text-of x) = count ∙ long in
       let e = fits-by (spend-fault s x) (leb (start + length (text-of x)) (length old)) (taken s x laid same) f in
       let all : putMid start (length old - start) old out ≡ take start old ++ (text-of x ++ drop (start + length (text-of x)) old) = cc in
-      subst (λ (o : Option Fault). Wrote o s x old start (Ok n) y (putMid start (length old - start) old out)) (sym e) (ap Ok m, unlaid, all)
+      subst (λ (o : Option Fault). Wrote o s x old start (Ok n) y (putMid start (length old - start) old out)) (sym e) (
+        ap Ok m,
+        unlaid,
+        all,
+      )
 
 -- what was written fits
 fits-at : (o : Option Fault) (b : Bool) (s : Slip) (x : Galley) (old : List ℕ) (start n : ℕ) (y : Galley) (new : List ℕ)

@@ -61,3 +61,7 @@ abbrev pub Lays : Option Fault → Model → (Question → Answer) → Galley �
 Lays (Some f) G P x r y = (r ≡ Err f) × Unchanged x y
 Lays None G P x (Ok s) y = (l : Layout) × LaidOut G P x (Ok l) × Stands (listed l) x s y
 Lays None G P x (Err f) y = LaidOut G P x (Err f) × Unchanged x y
+
+-- the call
+abbrev pub LaysBy : Model → (Question → Answer) → Galley → Result Slip Fault → Galley → Type 0
+LaysBy G P x r y = Lays (no-lay x) G P x r y

@@ -19,7 +19,8 @@ use Rattle.galley.specs.Lays.{no-lay, Lays}
 use Rattle.galley.specs.Writes.{write-fault, Wrote, Unlaid}
 
 -- s and y are what lay gave; z is y, no longer laid
-pub record Lets (G : Model) (P : Question → Answer) (x : Galley) (old : List ℕ) (start : ℕ) (f : Fault) (z : Galley) (new : List ℕ) : Type 0 where
+pub record Lets (G : Model) (P : Question → Answer) (x : Galley) (old : List ℕ) (start : ℕ) (f : Fault) (z : Galley) (new : List ℕ) :
+    Type 0 where
   pub slip : Slip
   pub laid : Galley
   pub still : Galley

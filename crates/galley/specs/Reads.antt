@@ -2,6 +2,7 @@
 --   short      the first memory that is too short for these tokens, tried as bytes, pieces, nodes, chart
 --   Read       what reading the tokens answers
 --   Took       what taking over a text's tokens answers: that refusal, no reading, or the pieces held
+--   ReadsIn    read itself
 --   barred     the first reason not to try: a laid galley, no such symbol, the text's own fault, short memory
 --   Settled    that refusal with the galley as it was, no reading likewise, or the text's pieces held and unlaid
 use mathlib.Core.Path.{_≡_}
@@ -21,7 +22,7 @@ use Rattle.faults.specs.declared.fault.Fault.the-variants.{AlreadyLaid, Grammar
 use Rattle.faults.specs.declared.fault.Memory.the-variants.{Bytes, Pieces}
 use Rattle.grammar.specs.Model.{Model}
 use Rattle.text.specs.declared.token.Token.{Token}
-use Rattle.text.specs.Verdict.{Verdict, accepted, refused}
+use Rattle.text.specs.Verdict.{Verdict, Judged, accepted, refused}
 use Rattle.chart.specs.Answer.{unfit, place-of}
 use Rattle.tree.specs.declared.node.Node.{Node}
 use Rattle.galley.specs.declared.held.Store.{Store}
@@ -72,3 +73,14 @@ Settled (Some f) v text x r y = (r ≡ Err f) × Unchanged x y
 Settled None (refused g) text x r y = ⊥
 Settled None (accepted ts) text x (Ok u) y = (y .number ≡ x .number) × (y .laid ≡ None) × Holds text ts (x .held) (y .held)
 Settled None (accepted ts) text x (Err f) y = NoReadingOf ts f × Unchanged x y
+
+-- reading the tokens, taking over a text, and the call itself, each with so many chart numbers
+abbrev pub Reads : Model → ℕ → ℕ → List Token → Store Node → Result Unit Fault → Store Node → Type 0
+Reads G symbol cells ts s r t = Read (unfit G symbol (length ts) (room s) cells) ts s r t
+
+abbrev pub TakesOver : Model → ℕ → ℕ → List ℕ → List Token → Held → Result Unit Fault → Held → Type 0
+TakesOver G symbol cells text ts h r k = Took (short G symbol h ts cells) text ts h r k
+
+-- v is the verdict on the text, of which there is just one
+abbrev pub ReadsIn : Model → ℕ → List ℕ → ℕ → Galley → Result Unit Fault → Galley → Type 0
+ReadsIn G symbol text cells x r y = (v : Verdict) → Judged G text v → Settled (barred G x symbol v cells) v text x r y

@@ -16,12 +16,13 @@ pub record Unchanged (x y : Galley) : Type 0 where
   pub laid : y .laid ≡ x .laid
 
 -- nothing is held, in these memories
-pub record Empty (number : ℕ) (bytes : RefT (List ℕ)) (pieces : RefT (List PieceRecord)) (nodes : RefT (List Node)) (x : Galley) : Type 0 where
-  pub is : x .number ≡ number
-  pub byte-memory : x .held .bytes .memory ≡ bytes
-  pub piece-memory : x .held .pieces .memory ≡ pieces
-  pub node-memory : x .held .nodes .memory ≡ nodes
-  pub no-bytes : x .held .bytes .used ≡ 0
-  pub no-pieces : x .held .pieces .used ≡ 0
-  pub no-nodes : x .held .nodes .used ≡ 0
-  pub unlaid : x .laid ≡ None
+pub record Empty (number : ℕ) (bytes : RefT (List ℕ)) (pieces : RefT (List PieceRecord)) (nodes : RefT (List Node)) (x : Galley) : Type 0
+  where
+    pub is : x .number ≡ number
+    pub byte-memory : x .held .bytes .memory ≡ bytes
+    pub piece-memory : x .held .pieces .memory ≡ pieces
+    pub node-memory : x .held .nodes .memory ≡ nodes
+    pub no-bytes : x .held .bytes .used ≡ 0
+    pub no-pieces : x .held .pieces .used ≡ 0
+    pub no-nodes : x .held .nodes .used ≡ 0
+    pub unlaid : x .laid ≡ None

@@ -2,6 +2,7 @@
 --   text-of       the text that a laid galley keeps
 --   spend-fault   why a slip is not taken: the galley is not laid, or has another number
 --   write-fault   the same, or the start is past the buffer's end, or the text does not fit behind it
+--   Releases, Writes   the two calls, by their first fault if there is one
 --   Released      the slip is handed back and nothing changed, or the galley is no longer laid
 --   Wrote         likewise, and the text stands in the buffer from the start on
 use mathlib.Core.Path.{_≡_}
@@ -50,3 +51,10 @@ Wrote (Some f) s x old start r y new = (r ≡ Err (record { fault = f; slip = s 
 Wrote None s x old start r y new =
     (r ≡ Ok (length (text-of x))) × Unlaid x y
     × (new ≡ take start old ++ (text-of x ++ drop (start + length (text-of x)) old))
+
+-- the calls
+abbrev pub Releases : Slip → Galley → Result Unit Declined → Galley → Type 0
+Releases s x r y = Released (spend-fault s x) s x r y
+
+abbrev pub Writes : Slip → Galley → List ℕ → ℕ → Result ℕ Declined → Galley → List ℕ → Type 0
+Writes s x old start r y new = Wrote (write-fault s x (length old) start) s x old start r y new

@@ -1,6 +1,6 @@
 ghost use mathlib.Core.Path.{_≡_};
 ghost use Rattle.tree.specs.Pieces.{total, longest};
-ghost use Rattle.galley.specs.Lays.{standing, «no-lay», Lays};
+ghost use Rattle.galley.specs.Lays.{standing, LaysBy};
 ghost use Rattle.galley.specs.Stores.{front, room, Fits};
 use crate::galley::Galley;
 use crate::held::Store;
@@ -51,7 +51,8 @@ impl Store<'_, PieceRecord> {
 impl Galley<'_> {
     // Lays the tree out by a policy: the galley then keeps its text for the slip.
     pub fn lay<G: Grammar, P: Policy>(&mut self, g: &G, policy: &P) -> Result<Slip, Fault>
-        ensures { λ r. ⌜ Lays («no-lay» (now (self .entry))) (G·Grammar .model (now (g .entry))) (P·Policy .answers (now (policy .entry))) (now (self .entry)) r (now (self .exit)) ⌝ }
+        ensures { λ r. ⌜ LaysBy (G·Grammar .model (now (g .entry))) (P·Policy .answers (now (policy .entry))) (now (self .entry)) r (now
+            (self .exit)) ⌝ }
     {
         if self.laid.is_some() {
             return Err(Fault::AlreadyLaid);

@@ -8,5 +8,6 @@ pub mod load;
 pub mod new;
 pub mod print;
 pub mod read;
+pub mod release;
 pub mod slip;
 pub mod write;

@@ -33,7 +33,8 @@ impl Galley<'_> {
         buffer: &mut [u8],
         start: usize,
     ) -> Result<usize, Fault>
-        ensures prints { λ r. ⌜ Prints (G·Grammar .model (now (g .entry))) (P·Policy .answers (now (policy .entry))) (now (self .entry)) (now (buffer .entry)) start r (now (self .exit)) (now (buffer .exit)) ⌝ }
+        ensures prints { λ r. ⌜ Prints (G·Grammar .model (now (g .entry))) (P·Policy .answers (now (policy .entry))) (now (self .entry))
+            (now (buffer .entry)) start r (now (self .exit)) (now (buffer .exit)) ⌝ }
         ensures fits { λ r. ⌜ Cases r (λ n. start + n ≤ length (now (buffer .entry))) (λ _. now (buffer .exit) ≡ now (buffer .entry)) ⌝ }
     {
         let slip = self.lay(g, policy)?;

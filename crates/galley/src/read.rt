@@ -2,11 +2,9 @@ ghost use mathlib.Core.Path.{_≡_};
 ghost use lib.ListN.{length, replicate};
 ghost use Prim.Native.Nat.{_≤_};
 ghost use Rattle.text.specs.Tokens.{listed};
-ghost use Rattle.text.specs.Verdict.{Verdict, Judged};
-ghost use Rattle.chart.specs.Answer.{unfit};
 ghost use Rattle.galley.specs.Loads.{Inside};
-ghost use Rattle.galley.specs.Stores.{Sound, room};
-ghost use Rattle.galley.specs.Reads.{Read, short, Took, barred, Settled};
+ghost use Rattle.galley.specs.Stores.{Sound};
+ghost use Rattle.galley.specs.Reads.{Reads, TakesOver, ReadsIn};
 use crate::galley::Galley;
 use crate::held::Held;
 use crate::held::Store;
@@ -29,7 +27,8 @@ impl Store<'_, Node> {
         tokens: &Tokens,
         cells: &mut [u64],
     ) -> Result<(), Fault>
-        ensures answer { λ r. ⌜ Read (unfit (model (now (g .entry))) symbol (length (listed (now (tokens .entry)))) (room (now (self .entry))) (length (now (cells .entry)))) (listed (now (tokens .entry))) (now (self .entry)) r (now (self .exit)) ⌝ }
+        ensures { λ r. ⌜ Reads (model (now (g .entry))) symbol (length (now (cells .entry))) (listed (now (tokens .entry))) (now (self
+            .entry)) r (now (self .exit)) ⌝ }
     {
         self.used = first_reading(g, symbol, tokens, cells, self.memory)?;
         Ok(())
@@ -48,7 +47,8 @@ impl Held<'_> {
     ) -> Result<(), Fault>
         requires own { ⌜ Sound (now self) ⌝ }
         requires inside { ⌜ Inside (now text) (listed (now tokens)) ⌝ }
-        ensures took { λ r. ⌜ Took (short (model (now (g .entry))) symbol (now (self .entry)) (listed (now (tokens .entry))) (length (now (cells .entry)))) (now (text .entry)) (listed (now (tokens .entry))) (now (self .entry)) r (now (self .exit)) ⌝ }
+        ensures took { λ r. ⌜ TakesOver (model (now (g .entry))) symbol (length (now (cells .entry))) (now (text .entry)) (listed (now
+            (tokens .entry))) (now (self .entry)) r (now (self .exit)) ⌝ }
         ensures sound { λ _. ⌜ Sound (now (self .exit)) ⌝ }
     {
         let list = tokens.as_slice();
@@ -76,7 +76,8 @@ impl Galley<'_> {
         chart: &mut [u64],
     ) -> Result<(), Fault>
         ensures zero { λ _. ⌜ now (chart .exit) ≡ replicate (length (now (chart .entry))) 0 ⌝ }
-        ensures answer { λ r. ⌜ ((v : Verdict) → Judged (model (now (g .entry))) (now (text .entry)) v → Settled (barred (model (now (g .entry))) (now (self .entry)) symbol v (length (now (chart .entry)))) v (now (text .entry)) (now (self .entry)) r (now (self .exit))) ⌝ }
+        ensures answer { λ r. ⌜ ReadsIn (model (now (g .entry))) symbol (now (text .entry)) (length (now (chart .entry))) (now (self
+            .entry)) r (now (self .exit)) ⌝ }
     {
         let memory = ChartMemory { cells: chart };
         if self.laid.is_some() {

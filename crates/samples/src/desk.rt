@@ -14,8 +14,18 @@ use tree::node::Node;
 use tree::node::Shape;
 use tree::piece::PieceRecord;
 
-const BLANK: Node = Node { rule: 0, left: 0, shape: Shape::One(Child::Piece) };
-const NO_PIECE: PieceRecord = PieceRecord { length: 0, terminal: 0, column: 0, opens_line: false };
+const BLANK: Node = Node {
+    rule: 0,
+    left: 0,
+    shape: Shape::One(Child::Piece),
+};
+
+const NO_PIECE: PieceRecord = PieceRecord {
+    length: 0,
+    terminal: 0,
+    column: 0,
+    opens_line: false,
+};
 
 // The program prints just that for the text.
 pub fn prints(rt: &LibcRuntime, text: &[u8], expected: &[u8]) -> Result<(), Fail> {

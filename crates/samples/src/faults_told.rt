@@ -3,15 +3,31 @@ use std::test::*;
 
 #[test]
 fn tells_what_and_where(rt: LibcRuntime) -> Result<(), Fail> {
-    prints(&rt, b"loop 3 :\n  feed 5\n speed 2\n", b"fault 18 line 3 column 1\n")?;
+    prints(
+        &rt,
+        b"loop 3 :\n  feed 5\n speed 2\n",
+        b"fault 18 line 3 column 1\n",
+    )?;
     prints(&rt, b"loop 3 :", b"fault 18 line 1 column 0\n")?;
     prints(&rt, b"else :\n feed", b"fault 18 line 1 column 0\n")?;
     prints(&rt, b"", b"fault 15 line 0 column 0\n")?;
-    prints(&rt, b"                                                                feed", b"fault 14 line 1 column 64\n")?;
+    prints(
+        &rt,
+        b"                                                                feed",
+        b"fault 14 line 1 column 64\n",
+    )?;
     prints(&rt, b"feed\n  \"open", b"fault 13 line 2 column 2\n")?;
     prints(&rt, b"feed \x00", b"fault 13 line 1 column 5\n")?;
-    prints(&rt, b"a123456789012345678901234567890123 _", b"fault 13 line 1 column 35\n")?;
-    prints(&rt, b"a12345678901234567890123456789012", b"fault 14 line 1 column 0\n")?;
+    prints(
+        &rt,
+        b"a123456789012345678901234567890123 _",
+        b"fault 13 line 1 column 35\n",
+    )?;
+    prints(
+        &rt,
+        b"a12345678901234567890123456789012",
+        b"fault 14 line 1 column 0\n",
+    )?;
     prints(&rt, b"feed ; 5", b"fault 16 line 1 column 5\n")
 }
 

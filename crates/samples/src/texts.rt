@@ -28,7 +28,8 @@ fn nests_seven_deep() -> Result<(), Fail> {
     let eight =
         b"loop 1 :\n loop 1 :\n  loop 1 :\n   loop 1 :\n    loop 1 :\n     loop 1 :\n      loop 1 :\n       loop 1 :\n        feed";
     too_deep(&step, eight, (4, 1))?;
-    let seven = b"loop 1 :\n loop 1 :\n  loop 1 :\n   loop 1 :\n    loop 1 :\n     loop 1 :\n      loop 1 :\n       feed";
+    let seven =
+        b"loop 1 :\n loop 1 :\n  loop 1 :\n   loop 1 :\n    loop 1 :\n     loop 1 :\n      loop 1 :\n       feed";
     lays(
         &step,
         seven,
@@ -40,6 +41,14 @@ fn nests_seven_deep() -> Result<(), Fail> {
 fn prints_scripts(rt: LibcRuntime) -> Result<(), Fail> {
     prints(&rt, b"feed", b"feed\n")?;
     prints(&rt, b"   feed   5  \n\n\n", b"feed 5\n")?;
-    prints(&rt, b"loop 3 :\n  feed 5\nspeed 2\n", b"loop 3 :\n    feed 5\nspeed 2\n")?;
-    prints(&rt, b"                                                               feed", b"feed\n")
+    prints(
+        &rt,
+        b"loop 3 :\n  feed 5\nspeed 2\n",
+        b"loop 3 :\n    feed 5\nspeed 2\n",
+    )?;
+    prints(
+        &rt,
+        b"                                                               feed",
+        b"feed\n",
+    )
 }

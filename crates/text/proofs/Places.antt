@@ -21,7 +21,8 @@ use Rattle.faults.specs.declared.fault.Position.{Position}
 use Rattle.pieces.specs.Pieces.{Place, Found, Reads, Cutting, Cut, start}
 use Rattle.grammar.specs.Model.{Model, terminal-of}
 use Rattle.text.specs.declared.token.Token.{Token}
-use Rattle.text.specs.Verdict.{Verdict, accepted, refused, out-of-bounds, unknown, first-of, token, token-with, tokens-of, refused-at, judged, verdict-on, Judged}
+use Rattle.text.specs.Verdict.{Verdict, accepted, refused, out-of-bounds, unknown, first-of, token, token-with, tokens-of, refused-at}
+use Rattle.text.specs.Verdict.{judged, verdict-on, Judged}
 
 -- of at most 32 bytes, and within a text of n bytes
 abbrev pub Inside : ℕ → Token → Type 0
@@ -52,7 +53,8 @@ token-inside n x o h = elim (leb-tells (length (x .bytes)) 32) [
       rw out tt
 ]
 
-tokens-inside : (n : ℕ) (G : Model) (ps : List Found) → All (λ x. x .place .offset + length (x .bytes) ≤ n) ps → All (Inside n) (tokens-of G ps)
+tokens-inside : (n : ℕ) (G : Model) (ps : List Found) → All (λ x. x .place .offset + length (x .bytes) ≤ n) ps → All (Inside n)
+    (tokens-of G ps)
 tokens-inside n G [] all = tt
 tokens-inside n G (x ∷ ps) all =
     let o = terminal-of G (x .bytes) in

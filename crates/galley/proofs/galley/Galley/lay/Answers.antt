@@ -18,7 +18,8 @@ returns g c =
     let count = c .text-length-length .ensures in
     let long : c .text-length-length .result ≡ length (text 0 (front (c .place-pieces .last .self)) (front (x .held .bytes))) = cc in
     let out =
-    laid-at G P x (Ok (c .in-Continue-layout .layout)) _ _ _ (c .contents .ensures .bytes) (c .contents .ensures .pieces) (c .contents .ensures .nodes)
+    laid-at G P x (Ok (c .in-Continue-layout .layout)) _ _ _ (c .contents .ensures .bytes) (c .contents .ensures .pieces) (c .contents
+    .ensures .nodes)
     (c .in-Continue-layout .ensures tt) in
     lays G P x _ _ (c .in-Continue-layout .layout) (c .if-is-some .ensures tt) (c .if-self-eq0 .left) out
     (record {

@@ -12,7 +12,8 @@ take-over-requires g c κs =
     let x = c .args .self .now in
     record {
       own = record { fit = x .fit; few = x .few; short = x .short; whole = x .whole };
-      inside = accepted-inside (g .G·Grammar .model (c .args .g .now)) (c .args .text .now) (listed (c .in-Continue-tokens .tokens)) (c .in-Continue-tokens .ensures tt .holds);
+      inside = accepted-inside (g .G·Grammar .model (c .args .g .now)) (c .args .text .now) (listed (c .in-Continue-tokens .tokens)) (c
+          .in-Continue-tokens .ensures tt .holds);
     }
 
 pub returns : need.returns

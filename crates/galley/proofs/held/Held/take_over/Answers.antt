@@ -18,10 +18,11 @@ returns g c =
     let few : length (listed tokens) ≤ 128 = omega (arith, tokens .few) in
     let count = c .count-bytes .ensures in
     let bytes : byte-count list ≤ room (h .bytes) = omega (arith, c .if-self-count-bytes .left) in
-    let read = c .in-Continue-hold-reading .ensures tt .answer in
+    let read = c .in-Continue-hold-reading .ensures tt in
     let fits = read-fits _ (listed tokens) (h .nodes) (c .hold-reading .last .self) read in
     let both =
-    took-over (g .G·Grammar .model (c .args .g .now)) (c .args .symbol) (length (c .args .cells .now)) (c .args .text .now) (listed tokens) list h
+    took-over (g .G·Grammar .model (c .args .g .now)) (c .args .symbol) (length (c .args .cells .now)) (c .args .text .now) (listed
+    tokens) list h
     (record { bytes = c .hold-bytes .last .self; pieces = c .hold-pieces .last .self; nodes = c .hold-reading .last .self })
     (c .as-slice-list .ensures) (c .pre .inside) few bytes (c .if-self-list .left) read
     (c .hold-bytes .ensures .used) (c .hold-bytes .ensures .room) (c .hold-bytes .ensures .front)

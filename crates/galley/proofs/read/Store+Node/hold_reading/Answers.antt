@@ -5,4 +5,5 @@ use Rattle.galley.proofs.read.Store+Node.hold_reading.Needs as need
 pub returns-in-Break-self : need.returns-in-Break-self
 returns-in-Break-self g c =
     let p = err-from-errBy (c .from-residual .result) (c .from-residual .ensures .1) in
-    record { answer = rw (p .1, p .2) (read-refused _ _ (c .args .self .now) (c .first-reading .last .nodes) (c .in-Break-self .field-0 .0) (c .in-Break-self .ensures tt)) }
+    let f = c .in-Break-self .field-0 .0 in
+    rw (p .1, p .2) (read-refused _ _ (c .args .self .now) (c .first-reading .last .nodes) f (c .in-Break-self .ensures tt))
