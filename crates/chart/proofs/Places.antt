@@ -1,11 +1,10 @@
-use mathlib.Core.Path.{_≡_, refl, sym, ap, subst, _∙_}
-use mathlib.Core.Logic.{_⊎_, inl, inr, ⊎-elim}
-use mathlib.Core.List.{List}
+use mathlib.Core.Path.{_≡_, refl, sym, ap, _∙_}
+use mathlib.Core.Logic.{⊎-elim}
 use Prim.Native.Nat.{ℕ, zero, suc, _+_, _-_, _*_, _/_, _%_, _<_, _≤_}
-use native.Mathlib.Nat.{mul-le-mul-right, add-mul, mul-add, suc-mul, mul-suc, mul-comm, mul-sub}
+use native.Mathlib.Nat.{suc-mul, mul-suc, mul-comm, mul-sub}
 use native.Mathlib.Numerals.{add-one}
 use native.Mathlib.Omega.{arith}
-use Rattle.std.proofs.shelf.Bits.{mul-add-lt, div-mul-add, mod-mul-add, mul-le}
+use Rattle.std.proofs.shelf.Bits.{mul-add-lt, div-mul-add, mod-mul-add}
 use Rattle.std.proofs.shelf.Tests.{cases-lt, cases-order}
 use Rattle.chart.specs.Place.{tri, placeOf}
 
@@ -28,13 +27,16 @@ same j k h l = omega arith
 pub tri-mono : (j k : ℕ) → j ≤ k → tri j ≤ tri k
 unfolding tri
 tri-mono j zero h = let e : j ≡ zero = omega arith in rw e (omega arith)
-tri-mono j (suc k) h = ⊎-elim (λ p. let q : tri j ≤ tri k = tri-mono j k (omega arith) in omega arith) (λ p. omega (arith, ap tri (same j (suc k) h p))) (cases-lt j (suc k))
+tri-mono j (suc k) h =
+    ⊎-elim (λ p. let q : tri j ≤ tri k = tri-mono j k (omega arith) in omega arith) (λ p. omega (arith, ap tri (same j (suc k) h p)))
+    (cases-lt j (suc k))
 
 -- one stretch has one row
 pub row-apart : (i j k m : ℕ) → i < j → k < m → tri j + i ≡ tri m + k → (i ≡ k) × (j ≡ m)
 row-apart i j k m h l e =
     ⊎-elim (λ p. let q : j ≡ m = p in (omega (arith, ap tri q), q))
-    (⊎-elim (λ p. absurd (omega (arith, tri-mono (j + 1) m (omega arith), tri-suc j))) (λ p. absurd (omega (arith, tri-mono (m + 1) j (omega arith), tri-suc m)))) (cases-order j m)
+    (⊎-elim (λ p. absurd (omega (arith, tri-mono (j + 1) m (omega arith), tri-suc j)))
+    (λ p. absurd (omega (arith, tri-mono (m + 1) j (omega arith), tri-suc m)))) (cases-order j m)
 
 pub place-lt : (n a i j p : ℕ) → a < n → i < j → j ≤ p → placeOf n a i j < tri (p + 1) * n
 unfolding placeOf

@@ -1,3 +1,11 @@
 pub mod Place
+pub mod Trees
+pub mod Fits
+pub mod Readings
+pub mod First
+pub mod Cut
 pub mod Chart
+pub mod Nodes
+pub mod Waits
+pub mod Numbers
 pub mod Answer

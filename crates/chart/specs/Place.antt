@@ -1,5 +1,5 @@
--- How a chart lies in memory: a number for each nonterminal and stretch of neighbouring pieces, all stretches that end at one piece together.
---   tri        how many stretches end before piece j
+-- How a chart lies in memory: a number for each nonterminal and stretch of neighbouring pieces; stretches that end at one piece together.
+--   tri        how many stretches end before piece j, which is j * (j - 1) / 2
 --   placeOf    where the number for nonterminal a of n and the stretch from i up to j stands
 --   nodes-of   how many nodes a tree over l pieces has at most, with n nonterminals
 use Prim.Native.Nat.{ℕ, zero, suc, _+_, _-_, _*_}

@@ -1,7 +1,6 @@
-ghost use mathlib.Core.Path.{_≡_};
-ghost use Prim.Native.Nat.{ℕ, _<_, _≤_};
+ghost use Prim.Native.Nat.{_+_, _≤_};
 ghost use lib.ListN.{length};
-ghost use Rattle.chart.specs.Chart.{Board, Within};
+ghost use Rattle.chart.specs.Chart.{Board, Within, Done};
 use crate::chart::Chart;
 use crate::place::place;
 use grammar::grammar::Grammar;
@@ -10,6 +9,8 @@ use text::token::Token;
 // Writes the whole chart.
 pub(crate) fn fill<'a, G: Grammar>(grammar: &'a G, tokens: &'a [Token], cells: &mut [u64])
     requires board { ⌜ Board (model (now grammar)) (now tokens) (now cells) ⌝ }
+    ensures after { λ _. ⌜ Done (model (now (grammar .entry))) (now (tokens .entry)) (now (cells .exit))
+        0 (length (now (tokens .entry))) ⌝ }
 {
     for last in 0..tokens.len() {
         fill_end(grammar, tokens, cells, last + 1);
@@ -20,6 +21,8 @@ pub(crate) fn fill<'a, G: Grammar>(grammar: &'a G, tokens: &'a [Token], cells: &
 fn fill_end<'a, G: Grammar>(grammar: &'a G, tokens: &'a [Token], cells: &mut [u64], j: usize)
     requires board { ⌜ Board (model (now grammar)) (now tokens) (now cells) ⌝ }
     requires end { ⌜ j ≤ length (now tokens) ⌝ }
+    requires before { ⌜ Done (model (now grammar)) (now tokens) (now cells) j j ⌝ }
+    ensures after { λ _. ⌜ Done (model (now (grammar .entry))) (now (tokens .entry)) (now (cells .exit)) 0 j ⌝ }
 {
     for i in (0..j).rev() {
         fill_stretch(grammar, tokens, cells, i, j);
@@ -37,6 +40,8 @@ fn fill_stretch<'a, G: Grammar>(
 )
     requires board { ⌜ Board (model (now grammar)) (now tokens) (now cells) ⌝ }
     requires within { ⌜ Within (now tokens) i j ⌝ }
+    requires before { ⌜ Done (model (now grammar)) (now tokens) (now cells) (i + 1) j ⌝ }
+    ensures after { λ _. ⌜ Done (model (now (grammar .entry))) (now (tokens .entry)) (now (cells .exit)) i j ⌝ }
 {
     let n = grammar.nonterminals();
     for a in (0..n).rev() {

@@ -1,15 +1,14 @@
 // The chart of column sets over the tokens of a text, and the first reading that it gives.
 
-pub mod chart;
-pub mod cut;
-pub mod fill;
+mod chart;
+mod cut;
+mod fill;
 pub mod memory;
-pub mod part;
-pub mod pick;
-pub mod place;
-pub mod reach;
+mod part;
+mod pick;
+mod place;
+mod reach;
 pub mod read;
-pub mod row;
-pub mod stack;
-pub mod waiting;
-pub mod walk;
+mod row;
+mod waiting;
+mod walk;

@@ -1,8 +1,8 @@
-ghost use mathlib.Core.Path.{_≡_};
-ghost use Prim.Native.Nat.{ℕ, _<_, _≤_};
 ghost use denote.Ref.{now as at};
+ghost use Rattle.columns.specs.Mask.{Means};
 ghost use Rattle.grammar.specs.Lawful.{Below};
-ghost use Rattle.chart.specs.Chart.{Ready, Within};
+ghost use Rattle.chart.specs.Chart.{Ready, Within, Known, under, inside};
+ghost use Rattle.chart.specs.Readings.{Part};
 use crate::chart::Chart;
 use crate::place::place;
 use columns::mask::only;
@@ -15,6 +15,8 @@ impl<G: Grammar> Chart<'_, '_, G> {
         requires ready { ⌜ Ready model (now self) ⌝ }
         requires within { ⌜ Within (at (now self .tokens)) i j ⌝ }
         requires below { ⌜ Below (model (at (now self .grammar))) symbol ⌝ }
+        requires known { ⌜ inside model (now self) Known symbol i j ⌝ }
+        ensures { λ r. ⌜ Means r (under model (now (self .entry)) Part symbol i j) ⌝ }
     {
         match symbol {
             Symbol::Terminal(t) => {

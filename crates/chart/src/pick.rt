@@ -1,11 +1,11 @@
-ghost use mathlib.Core.Path.{_≡_};
-ghost use Prim.Native.Nat.{ℕ, _<_, _≤_};
+ghost use mathlib.Core.List.{[], _∷_};
+ghost use Prim.Native.Nat.{_<_};
 ghost use denote.Ref.{now as at};
-ghost use Rattle.std.specs.Options.{Cases};
-ghost use Rattle.std.specs.shelf.Lists.{All};
-ghost use Rattle.grammar.specs.Model.{listed};
 ghost use Rattle.grammar.specs.Lawful.{Below};
-ghost use Rattle.chart.specs.Chart.{Ready, Within};
+ghost use Rattle.chart.specs.Chart.{Ready, Within, Filled, under};
+ghost use Rattle.std.specs.declared.option.Option.the-variants.{Some as Is};
+ghost use Rattle.chart.specs.Readings.{Row, ItemsOf, Derives};
+ghost use Rattle.chart.specs.First.{LowestRule, Shortest};
 use crate::chart::Chart;
 use crate::cut::first_begin;
 use crate::cut::past_end;
@@ -23,38 +23,43 @@ pub(crate) struct Choice {
 
 impl<G: Grammar> Chart<'_, '_, G> {
     // The lowest rule of nonterminal a that can be completed over the tokens from i up to j at that column.
-    pub(crate) fn lowest_rule(&self, a: u8, column: u8, i: usize, j: usize) -> Option<Choice>
+    pub(crate) fn lowest_rule(&self, a: u8, column: u8, i: usize, j: usize) -> Choice
         requires ready { ⌜ Ready model (now self) ⌝ }
+        requires filled { ⌜ Filled model (now self) ⌝ }
         requires within { ⌜ Within (at (now self .tokens)) i j ⌝ }
-        ensures { λ r. ⌜ Cases r (Unit {0}) (λ k. All (λ x. Below (model (at (now (self .entry) .grammar))) (x .symbol)) (listed (k .items))) ⌝ }
+        requires some { ⌜ under model (now self) Derives a i j column ⌝ }
+        ensures lowest { λ r. ⌜ under model (now (self .entry)) LowestRule a i j column (r .number) ⌝ }
+        ensures items { λ r. ⌜ under model (now (self .entry)) ItemsOf a (r .number) (Is (r .items)) ⌝ }
     {
         for number in 0..self.grammar.rules() {
-            if let Some(rule) = self.grammar.rule(number) {
-                if rule.left == a && has(self.row(rule.items, i, j), column) {
-                    return Some(Choice {
-                        number,
-                        items: rule.items,
-                    });
+            if let Some(items) = self.items_of(a, number) {
+                if has(self.row(items, a, i, j), column) {
+                    return Choice { number, items };
                 }
             }
         }
-        None
+        unreachable()
     }
 
     // The end of the shortest first of two items.
-    pub(crate) fn cut_two(&self, x: Item, y: Item, column: u8, i: usize, j: usize) -> Option<usize>
+    pub(crate) fn cut_two(&self, x: Item, y: Item, column: u8, i: usize, j: usize) -> usize
         requires ready { ⌜ Ready model (now self) ⌝ }
+        requires filled { ⌜ Filled model (now self) ⌝ }
         requires within { ⌜ Within (at (now self .tokens)) i j ⌝ }
         requires first { ⌜ Below (model (at (now self .grammar))) (x .symbol) ⌝ }
         requires second { ⌜ Below (model (at (now self .grammar))) (y .symbol) ⌝ }
-        ensures { λ r. ⌜ Cases r (Unit {0}) (λ k. (i < k) × (k < j)) ⌝ }
+        requires some { ⌜ under model (now self) Row (x ∷ y ∷ []) i j column ⌝ }
+        ensures within { λ r. ⌜ (i < r) × (r < j) ⌝ }
+        ensures first { λ r. ⌜ under model (now (self .entry)) Shortest x (y ∷ []) i j column r ⌝ }
     {
         for cut in first_begin(y.symbol, i, j)..past_end(x.symbol, i, j) {
-            if has(self.row_one(x, i, cut), column) && has(self.row_one(y, cut, j), column) {
-                return Some(cut);
+            let front = self.row_one(x, i, cut);
+            let back = self.row_one(y, cut, j);
+            if has(front & back, column) {
+                return cut;
             }
         }
-        None
+        unreachable()
     }
 
     // The end of the shortest first of three items.
@@ -66,19 +71,24 @@ impl<G: Grammar> Chart<'_, '_, G> {
         column: u8,
         i: usize,
         j: usize,
-    ) -> Option<usize>
+    ) -> usize
         requires ready { ⌜ Ready model (now self) ⌝ }
+        requires filled { ⌜ Filled model (now self) ⌝ }
         requires within { ⌜ Within (at (now self .tokens)) i j ⌝ }
         requires first { ⌜ Below (model (at (now self .grammar))) (x .symbol) ⌝ }
         requires second { ⌜ Below (model (at (now self .grammar))) (y .symbol) ⌝ }
         requires third { ⌜ Below (model (at (now self .grammar))) (z .symbol) ⌝ }
-        ensures { λ r. ⌜ Cases r (Unit {0}) (λ k. (i < k) × (k < j)) ⌝ }
+        requires some { ⌜ under model (now self) Row (x ∷ y ∷ z ∷ []) i j column ⌝ }
+        ensures within { λ r. ⌜ (i < r) × (r < j) ⌝ }
+        ensures first { λ r. ⌜ under model (now (self .entry)) Shortest x (y ∷ z ∷ []) i j column r ⌝ }
     {
         for cut in i + 1..past_end(x.symbol, i, j) {
-            if has(self.row_one(x, i, cut), column) && has(self.row_two(y, z, cut, j), column) {
-                return Some(cut);
+            let front = self.row_one(x, i, cut);
+            let back = self.row_two(y, z, cut, j);
+            if has(front & back, column) {
+                return cut;
             }
         }
-        None
+        unreachable()
     }
 }

@@ -1,11 +1,12 @@
 ghost use mathlib.Core.Path.{_≡_};
-ghost use Prim.Native.Nat.{ℕ, _<_, _≤_};
+ghost use Prim.Native.Nat.{_<_};
 ghost use lib.ListN.{length};
 ghost use denote.Ref.{now as at};
 ghost use Rattle.std.specs.Runs.{nth};
 ghost use Rattle.std.specs.declared.option.Option.the-variants.{Some};
 ghost use Rattle.text.specs.declared.token.Token.{Token};
-ghost use Rattle.chart.specs.Chart.{Ready};
+ghost use Rattle.chart.specs.Chart.{Ready, Filled, under};
+ghost use Rattle.chart.specs.First.{Reach};
 ghost use Rattle.chart.specs.Answer.{«place-of»};
 use crate::chart::Chart;
 use faults::fault::Position;
@@ -13,16 +14,18 @@ use grammar::grammar::Grammar;
 use grammar::rule::Symbol;
 
 impl<G: Grammar> Chart<'_, '_, G> {
-    // The last token before the end that is the first one, or that a reading of the tokens before it reaches.
+    // The last token that is the first one, or that a reading of the tokens before it reaches.
     pub(crate) fn reach(&self, symbol: u8) -> usize
         requires ready { ⌜ Ready model (now self) ⌝ }
+        requires filled { ⌜ Filled model (now self) ⌝ }
         requires some { ⌜ 0 < length (at (now self .tokens)) ⌝ }
         requires low { ⌜ symbol < model (at (now self .grammar)) .nonterminals ⌝ }
-        ensures { λ r. ⌜ r < length (at (now (self .entry) .tokens)) ⌝ }
+        ensures { λ r. ⌜ under model (now (self .entry)) Reach symbol (length (at (now (self .entry) .tokens))) r ⌝ }
     {
         let mut last = 0;
         for end in 1..self.tokens.len() {
-            if self.part(Symbol::Nonterminal(symbol), 0, end) != 0 {
+            let columns = self.part(Symbol::Nonterminal(symbol), 0, end);
+            if columns != 0 {
                 last = end;
             }
         }

@@ -1,10 +1,11 @@
-ghost use mathlib.Core.Path.{_≡_};
-ghost use Prim.Native.Nat.{ℕ, _<_, _≤_};
+ghost use mathlib.Core.List.{[], _∷_};
 ghost use denote.Ref.{now as at};
 ghost use Rattle.std.specs.shelf.Lists.{All};
+ghost use Rattle.columns.specs.Mask.{Means};
 ghost use Rattle.grammar.specs.Model.{listed};
-ghost use Rattle.grammar.specs.Lawful.{Below};
-ghost use Rattle.chart.specs.Chart.{Ready, Within};
+ghost use Rattle.grammar.specs.Lawful.{Below, Ordered};
+ghost use Rattle.chart.specs.Chart.{Ready, Within, Known, Inner, Upper, under, inside};
+ghost use Rattle.chart.specs.Readings.{Row, ItemsOf, Derives};
 use crate::chart::Chart;
 use crate::cut::first_begin;
 use crate::cut::past_end;
@@ -19,6 +20,8 @@ impl<G: Grammar> Chart<'_, '_, G> {
         requires ready { ⌜ Ready model (now self) ⌝ }
         requires within { ⌜ Within (at (now self .tokens)) i j ⌝ }
         requires below { ⌜ Below (model (at (now self .grammar))) (x .symbol) ⌝ }
+        requires known { ⌜ inside model (now self) Known (x .symbol) i j ⌝ }
+        ensures { λ r. ⌜ Means r (under model (now (self .entry)) Row (x ∷ []) i j) ⌝ }
     {
         node_columns(x.relation, self.part(x.symbol, i, j))
     }
@@ -29,12 +32,14 @@ impl<G: Grammar> Chart<'_, '_, G> {
         requires within { ⌜ Within (at (now self .tokens)) i j ⌝ }
         requires first { ⌜ Below (model (at (now self .grammar))) (x .symbol) ⌝ }
         requires second { ⌜ Below (model (at (now self .grammar))) (y .symbol) ⌝ }
+        requires inner { ⌜ inside model (now self) Inner i j ⌝ }
+        ensures { λ r. ⌜ Means r (under model (now (self .entry)) Row (x ∷ y ∷ []) i j) ⌝ }
     {
         let mut all = 0;
         for cut in first_begin(y.symbol, i, j)..past_end(x.symbol, i, j) {
-            let front = self.row_one(x, i, cut);
+            let front = self.part(x.symbol, i, cut);
             if front != 0 {
-                all |= front & self.row_one(y, cut, j);
+                all |= node_columns(x.relation, front) & self.row_one(y, cut, j);
             }
         }
         all
@@ -47,22 +52,28 @@ impl<G: Grammar> Chart<'_, '_, G> {
         requires first { ⌜ Below (model (at (now self .grammar))) (x .symbol) ⌝ }
         requires second { ⌜ Below (model (at (now self .grammar))) (y .symbol) ⌝ }
         requires third { ⌜ Below (model (at (now self .grammar))) (z .symbol) ⌝ }
+        requires inner { ⌜ inside model (now self) Inner i j ⌝ }
+        ensures { λ r. ⌜ Means r (under model (now (self .entry)) Row (x ∷ y ∷ z ∷ []) i j) ⌝ }
     {
         let mut all = 0;
         for cut in i + 1..past_end(x.symbol, i, j) {
-            let front = self.row_one(x, i, cut);
+            let front = self.part(x.symbol, i, cut);
             if front != 0 {
-                all |= front & self.row_two(y, z, cut, j);
+                all |= node_columns(x.relation, front) & self.row_two(y, z, cut, j);
             }
         }
         all
     }
 
-    // The columns of a node whose items divide the tokens from i up to j.
-    pub(crate) fn row(&self, items: Items, i: usize, j: usize) -> u64
+    // The columns of a node with nonterminal a whose items divide the tokens from i up to j.
+    pub(crate) fn row(&self, items: Items, a: u8, i: usize, j: usize) -> u64
         requires ready { ⌜ Ready model (now self) ⌝ }
         requires within { ⌜ Within (at (now self .tokens)) i j ⌝ }
         requires below { ⌜ All (λ x. Below (model (at (now self .grammar))) (x .symbol)) (listed items) ⌝ }
+        requires ordered { ⌜ Ordered a items ⌝ }
+        requires inner { ⌜ inside model (now self) Inner i j ⌝ }
+        requires upper { ⌜ inside model (now self) Upper a i j ⌝ }
+        ensures { λ r. ⌜ Means r (under model (now (self .entry)) Row (listed items) i j) ⌝ }
     {
         match items {
             Items::One(x) => self.row_one(x, i, j),
@@ -71,20 +82,13 @@ impl<G: Grammar> Chart<'_, '_, G> {
         }
     }
 
-    // The columns of a node with nonterminal a over the tokens from i up to j, by the rule of that number.
-    pub(crate) fn by_rule(&self, number: u8, a: u8, i: usize, j: usize) -> u64
-        requires ready { ⌜ Ready model (now self) ⌝ }
-        requires within { ⌜ Within (at (now self .tokens)) i j ⌝ }
+    // The items of the rule of that number, if its left symbol is a.
+    pub(crate) fn items_of(&self, a: u8, number: u8) -> Option<Items>
+        ensures { λ r. ⌜ under model (now (self .entry)) ItemsOf a number r ⌝ }
     {
         match self.grammar.rule(number) {
-            Some(rule) => {
-                if rule.left == a {
-                    self.row(rule.items, i, j)
-                } else {
-                    0
-                }
-            }
-            None => 0,
+            Some(rule) if rule.left == a => Some(rule.items),
+            _ => None,
         }
     }
 
@@ -92,10 +96,15 @@ impl<G: Grammar> Chart<'_, '_, G> {
     pub(crate) fn cell(&self, a: u8, i: usize, j: usize) -> u64
         requires ready { ⌜ Ready model (now self) ⌝ }
         requires within { ⌜ Within (at (now self .tokens)) i j ⌝ }
+        requires inner { ⌜ inside model (now self) Inner i j ⌝ }
+        requires upper { ⌜ inside model (now self) Upper a i j ⌝ }
+        ensures { λ r. ⌜ Means r (under model (now (self .entry)) Derives a i j) ⌝ }
     {
         let mut all = 0;
         for number in 0..self.grammar.rules() {
-            all |= self.by_rule(number, a, i, j);
+            if let Some(items) = self.items_of(a, number) {
+                all |= self.row(items, a, i, j);
+            }
         }
         all
     }

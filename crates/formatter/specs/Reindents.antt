@@ -13,10 +13,9 @@ use Rattle.std.specs.declared.result.Result.the-variants.{Ok, Err}
 use Rattle.faults.specs.declared.fault.Fault.{Fault}
 use Rattle.grammar.specs.Block.{block}
 use Rattle.policy.specs.Policies.{step}
-use Rattle.text.specs.Verdict.{Verdict, Judged}
 use Rattle.galley.specs.declared.galley.Galley.{Galley}
 use Rattle.galley.specs.Stores.{room}
-use Rattle.galley.specs.Reads.{barred, Settled}
+use Rattle.galley.specs.Reads.{ReadsIn}
 use Rattle.galley.specs.Prints.{Prints}
 
 pub record Roomy (x : Galley) : Type 0 where
@@ -27,7 +26,7 @@ pub record Roomy (x : Galley) : Type 0 where
   pub unlaid : x .laid ≡ None
 
 abbrev pub ReadIn : List ℕ → Galley → Result Unit Fault → Galley → Type 0
-ReadIn text x r y = (v : Verdict) → Judged block text v → Settled (barred block x 0 v 8192) v text x r y
+ReadIn text x r y = ReadsIn block 0 text 8192 x r y
 
 abbrev pub Writes : Galley → List ℕ → Result ℕ Fault → Galley → List ℕ → Type 0
 Writes y old r z new = Prints block (step 4) y old 0 r z new

@@ -1,9 +1,13 @@
 use native.Mathlib.Omega.{arith}
-use mathlib.Core.Path.{_≡_, ap, subst}
-use Prim.Native.Nat.{ℕ, _≤_, _<_, _+_, _*_}
+use borrow.Author.Needs.{needs}
+use mathlib.Core.Path.{ap, subst}
+use Prim.Native.Nat.{ℕ, _≤_, _+_, _*_}
 use lib.ListN.{length, length-take}
 use Rattle.text.specs.Tokens.{listed}
 use Rattle.chart.specs.Place.{tri, nodes-of}
+use Rattle.chart.proofs.Once.{all-read, all-one}
+use Rattle.chart.proofs.Exists.{all-exist}
+use Rattle.chart.proofs.Numbers.{all-numbers, all-numbered, all-trees}
 use Rattle.chart.proofs.read.first_reading.Needs as need
 
 pub node-need-requires : need.node-need-requires
@@ -27,8 +31,66 @@ read-tokens-requires g c κs =
     let n = c .nonterminals-n .ensures in
     let count = length (c .as-slice-tokens .result .now) in
     record {
-      few = (omega arith, omega arith);
+      board = record { few = omega arith; room = subst (λ (x : ℕ). tri (count + 1) * x ≤ length (c .args .cells .now)) n (omega arith) };
+      some = omega arith;
       low = omega arith;
       room = subst (λ (x : ℕ). nodes-of x count ≤ length (c .args .nodes .now)) n (omega arith);
-      chart = subst (λ (x : ℕ). tri (count + 1) * x ≤ length (c .args .cells .now)) n (omega arith);
     }
+
+pub returns-then-symbol-n : need.returns-then-symbol-n
+returns-then-symbol-n g c = record {
+  answer = search needs;
+  reads = all-read;
+  one = all-one;
+  exists = all-exist;
+  numbers = all-numbers;
+  single = all-numbered;
+  trees = all-trees;
+}
+
+pub returns-then-count-eq0 : need.returns-then-count-eq0
+returns-then-count-eq0 g c = record {
+  answer = search needs;
+  reads = all-read;
+  one = all-one;
+  exists = all-exist;
+  numbers = all-numbers;
+  single = all-numbered;
+  trees = all-trees;
+}
+
+pub returns-then-nodes-node-need : need.returns-then-nodes-node-need
+returns-then-nodes-node-need g c = record {
+  answer = search needs;
+  reads = all-read;
+  one = all-one;
+  exists = all-exist;
+  numbers =
+      all-numbers;
+  single = all-numbered;
+  trees = all-trees;
+}
+
+pub returns-then-cells-chart-need : need.returns-then-cells-chart-need
+returns-then-cells-chart-need g c = record {
+  answer = search needs;
+  reads = all-read;
+  one = all-one;
+  exists = all-exist;
+  numbers =
+      all-numbers;
+  single = all-numbered;
+  trees = all-trees;
+}
+
+pub returns : need.returns
+returns g c = record {
+  answer = search needs;
+  reads = all-read;
+  one = all-one;
+  exists = all-exist;
+  numbers = all-numbers;
+  single =
+      all-numbered;
+  trees = all-trees;
+}
