@@ -53,7 +53,8 @@ read-held None G A ts s new n long (t, ns, first, holds, count, is) =
     (omega arith, long, (t, first, subst (λ (xs : List Node). nodes.Holds G xs t) (sym f) holds))
 
 -- where the tokens were read, their text is held
-took-read : (o : Option Fault) (G : Model) (A : ℕ) (text : List ℕ) (ts : List Token) (h k : Held) → Read o G A ts (h .nodes) (Ok tt) (k .nodes)
+took-read : (o : Option Fault) (G : Model) (A : ℕ) (text : List ℕ) (ts : List Token) (h k : Held) → Read o G A ts (h .nodes) (Ok tt) (k
+    .nodes)
     → Holds G A text ts h k → Took o G A text ts h (Ok tt) k
 took-read (Some e) G A text ts h k (is, same) holds = let z : _≡_ {A = ℕ} 0 1 = cc in absurd (omega arith)
 took-read None G A text ts h k fits holds = holds
@@ -111,7 +112,8 @@ took-over G symbol cells text ts list h k same inside few bytes pieces read used
         pieces = pf;
         byte-room = broom;
         piece-room = proom;
-        tree = fits .2; node-room = fits .1;
+        tree = fits .2;
+        node-room = fits .1;
       }),
       sound text ts k inside few (fits .0) bu (omega arith) pu (omega arith) pf,
     )

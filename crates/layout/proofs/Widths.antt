@@ -10,7 +10,9 @@ use Rattle.tree.specs.Pieces.{total, longest}
 use Rattle.tree.proofs.Naming.{blank}
 use Rattle.layout.specs.Text.{lead, reached, text, width}
 
-pub width-next : (ps : List PieceRecord) (at i : ℕ) → i < length ps → width at (drop i ps) ≡ (length (lead at (getD ps i blank)) + getD ps i blank .length) + width (reached (getD ps i blank)) (drop (i + 1) ps)
+pub width-next : (ps : List PieceRecord) (at i : ℕ) → i < length ps
+    → width at (drop i ps) ≡ (length (lead at (getD ps i blank)) + getD ps i blank .length) + width (reached (getD ps i blank))
+    (drop (i + 1) ps)
 width-next ps at i here = at-drop-more (width at) ps i blank here
 
 pub width-end : (ps : List PieceRecord) (at i : ℕ) → length ps ≤ i → width at (drop i ps) ≡ 1

@@ -26,7 +26,8 @@ module _ {X : Type 0} (out wrote xs : List X) (i n : ℕ) (fits : i + n ≤ leng
   wrote-long = ap length is ∙ long
 
   pub many-front : take (i + n) (putMid i (i + n - i) out wrote) ≡ take i out ++ xs
-  many-front = let w = wrote-long in take-putMid i (i + n - i) out wrote (i + n) (omega arith) (omega arith) ∙ ap (λ (ys : List X). take i out ++ ys) is
+  many-front = let w = wrote-long in take-putMid i (i + n - i) out wrote (i + n) (omega arith) (omega arith)
+      ∙ ap (λ (ys : List X). take i out ++ ys) is
 
   pub many-rest : drop (i + n) (putMid i (i + n - i) out wrote) ≡ drop (i + n) out
   many-rest = let w = wrote-long in drop-putMid i (i + n - i) out wrote (i + n) (omega arith) (omega arith) (omega arith)

@@ -1,9 +1,6 @@
 ghost use mathlib.Core.Path.{_≡_};
-ghost use Prim.Native.Nat.{_<_, _≤_};
-ghost use Rattle.std.specs.Results.{Cases};
-ghost use Rattle.faults.specs.declared.fault.Fault.the-variants.{TooDeep};
 ghost use Rattle.tree.specs.Walks.{«slot-of»};
-ghost use Rattle.layout.specs.Questions.{«answer-of»};
+ghost use Rattle.layout.specs.Questions.{Settles, «answer-of»};
 use columns::relation::Relation;
 use faults::fault::Fault;
 use policy::policy::Policy;
@@ -14,7 +11,7 @@ use tree::walk::Step;
 
 // The column that an item takes and whether it asks for a break.
 fn answer<P: Policy>(policy: &P, step: &Step, cursor: u8) -> Answer
-    ensures { λ r. ⌜ r ≡ «answer-of» (P·Policy .answers (now (policy .entry))) cursor («slot-of» (now (step .entry))) ⌝ }
+    ensures { λ r. ⌜ r ≡ «answer-of» (answers (now (policy .entry))) cursor («slot-of» (now (step .entry))) ⌝ }
 {
     let bound = match step.item.relation {
         Relation::Equal => return Answer {
@@ -37,8 +34,7 @@ fn answer<P: Policy>(policy: &P, step: &Step, cursor: u8) -> Answer
 
 // The same, refused where the column is above 63.
 pub(crate) fn settle<P: Policy>(policy: &P, step: &Step, cursor: u8) -> Result<Answer, Fault>
-    ensures is { λ r. ⌜ Cases r (λ a. a ≡ «answer-of» (P·Policy .answers (now (policy .entry))) cursor («slot-of» (now (step .entry)))) (λ f. f ≡ TooDeep (now (step .entry) .rule) (now (step .entry) .index)) ⌝ }
-    ensures deep { λ r. ⌜ Cases r (λ a. a .column ≤ 63) (λ _. 63 < «answer-of» (P·Policy .answers (now (policy .entry))) cursor («slot-of» (now (step .entry))) .column) ⌝ }
+    ensures { λ r. ⌜ Settles («answer-of» (answers (now (policy .entry))) cursor («slot-of» (now (step .entry)))) (now (step .entry)) r ⌝ }
 {
     let answer = answer(policy, step, cursor);
     if answer.column > 63 {

@@ -17,7 +17,8 @@ pub fn lay_out<G: Grammar, P: Policy>(
     policy: &P,
     contents: Contents,
 ) -> Result<Layout, Fault>
-    ensures { λ r. ⌜ Laid (G·Grammar .model (now (grammar .entry))) (P·Policy .answers (now (policy .entry))) (mem (contents .entry .bytes)) (mem (contents .entry .pieces)) («rules-of» (mem (contents .entry .nodes))) r ⌝ }
+    ensures { λ r. ⌜ Laid (model (now (grammar .entry))) (answers (now (policy .entry)))
+        (mem (contents .entry .bytes)) (mem (contents .entry .pieces)) («rules-of» (mem (contents .entry .nodes))) r ⌝ }
 {
     let terminals = Terminals::of(grammar, &contents)?;
     judge(grammar, contents.nodes, &terminals)?;

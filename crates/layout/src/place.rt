@@ -1,15 +1,11 @@
 ghost use mathlib.Core.Path.{_≡_};
-ghost use Prim.Native.Nat.{_<_, _≤_};
 ghost use denote.Ref.{now as mem};
 ghost use lib.ListN.{length};
-ghost use Rattle.std.specs.Results.{Cases};
-ghost use Rattle.faults.specs.declared.fault.Fault.the-variants.{TooDeep};
 ghost use Rattle.tree.specs.Forest.{Tree};
 ghost use Rattle.tree.specs.Terminals.{listed};
-ghost use Rattle.tree.specs.Walks.{«rules-of», «slot-of»};
-ghost use Rattle.layout.specs.Layouts.{LaysOut, lengths, outcome};
-ghost use Rattle.layout.specs.Placers.{Puts, Within};
-ghost use Rattle.layout.specs.Questions.{«answer-of»};
+ghost use Rattle.tree.specs.Walks.{«rules-of»};
+ghost use Rattle.layout.specs.Layouts.{ComesOut, lengths, outcome};
+ghost use Rattle.layout.specs.Placers.{Putting, Within};
 use crate::answer::settle;
 use crate::line::Line;
 use crate::placement::Layout;
@@ -28,8 +24,8 @@ impl Placer {
     // Places what an item covers, and answers the item's column.
     fn put<P: Policy>(&mut self, policy: &P, step: &Step, contents: &Contents) -> Result<u8, Fault>
         requires { ⌜ Within (now step .item .symbol) (now step .piece) (length (mem (now contents .pieces))) ⌝ }
-        ensures column { λ r. ⌜ Cases r (λ c. (c ≡ «answer-of» (P·Policy .answers (now (policy .entry))) (now (self .entry) .line .cursor) («slot-of» (now (step .entry))) .column) × (c ≤ 63)) (λ f. (f ≡ TooDeep (now (step .entry) .rule) (now (step .entry) .index)) × (63 < «answer-of» (P·Policy .answers (now (policy .entry))) (now (self .entry) .line .cursor) («slot-of» (now (step .entry))) .column)) ⌝ }
-        ensures puts { λ r. ⌜ Cases r (λ _. Puts (now (step .entry) .item .symbol) («answer-of» (P·Policy .answers (now (policy .entry))) (now (self .entry) .line .cursor) («slot-of» (now (step .entry)))) (lengths (mem (now (contents .entry) .pieces))) (now (step .entry) .piece) (now (self .entry)) (now (self .exit))) (λ _. now (self .exit) ≡ now (self .entry)) ⌝ }
+        ensures { λ r. ⌜ Putting (answers (now (policy .entry))) (now (step .entry)) (lengths (mem (now (contents .entry) .pieces)))
+            (now (self .entry)) (now (self .exit)) r ⌝ }
     {
         let answer = settle(policy, step, self.line.cursor)?;
         self.line.ask(answer.breaks);
@@ -48,9 +44,10 @@ pub(crate) fn place<'a, G: Grammar, P: Policy>(
     contents: &'a Contents<'a>,
     terminals: &'a Terminals,
 ) -> Result<Layout, Fault>
-    requires tree { ⌜ Tree (G·Grammar .model (now grammar)) («rules-of» (mem (now contents .nodes))) (listed (now terminals)) ⌝ }
+    requires tree { ⌜ Tree (model (now grammar)) («rules-of» (mem (now contents .nodes))) (listed (now terminals)) ⌝ }
     requires same { ⌜ length (listed (now terminals)) ≡ length (mem (now contents .pieces)) ⌝ }
-    ensures { λ r. ⌜ LaysOut (G·Grammar .model (now (grammar .entry))) (P·Policy .answers (now (policy .entry))) («rules-of» (mem (now (contents .entry) .nodes))) (lengths (mem (now (contents .entry) .pieces))) (outcome r) ⌝ }
+    ensures { λ r. ⌜ ComesOut (model (now (grammar .entry))) (answers (now (policy .entry)))
+        («rules-of» (mem (now (contents .entry) .nodes))) (lengths (mem (now (contents .entry) .pieces))) (outcome r) ⌝ }
 {
     let mut walk = Walk::new(grammar, contents.nodes, terminals)?;
     let mut placer = Placer {

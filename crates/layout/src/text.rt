@@ -36,7 +36,8 @@ pub fn text_length(contents: &Contents) -> u16
 // Writes the text of laid-out pieces to the front of a part that has room for it.
 fn emit(contents: &Contents, out: &mut [u8])
     requires { ⌜ width 0 (mem (now contents .pieces)) ≤ length (now out) ⌝ }
-    ensures { λ _. ⌜ now (out .exit) ≡ text 0 (mem (now (contents .entry) .pieces)) (mem (now (contents .entry) .bytes)) ++ drop (width 0 (mem (now (contents .entry) .pieces))) (now (out .entry)) ⌝ }
+    ensures { λ _. ⌜ now (out .exit) ≡ text 0 (mem (now (contents .entry) .pieces)) (mem (now (contents .entry) .bytes))
+        ++ drop (width 0 (mem (now (contents .entry) .pieces))) (now (out .entry)) ⌝ }
 {
     let mut writer = LineWriter { out, position: 0 };
     let mut reached = 0;
@@ -53,7 +54,8 @@ fn emit(contents: &Contents, out: &mut [u8])
 // Writes the text of laid-out pieces to the front of a part of a buffer and answers its length;
 // none, and nothing written, where the part is too short.
 pub fn write_text(contents: &Contents, out: &mut [u8]) -> Option<usize>
-    ensures { λ r. ⌜ Written (text 0 (mem (now (contents .entry) .pieces)) (mem (now (contents .entry) .bytes))) (now (out .entry)) (now (out .exit)) r ⌝ }
+    ensures { λ r. ⌜ Written (text 0 (mem (now (contents .entry) .pieces)) (mem (now (contents .entry) .bytes)))
+        (now (out .entry)) (now (out .exit)) r ⌝ }
 {
     let length = text_length(contents) as usize;
     if length > out.len() {

@@ -33,7 +33,9 @@ fn nests_seven_deep() -> Result<(), Fail> {
     lays(
         &step,
         seven,
-        b"loop 1 :\n        loop 1 :\n                loop 1 :\n                        loop 1 :\n                                loop 1 :\n                                        loop 1 :\n                                                loop 1 :\n                                                        feed\n",
+        b"loop 1 :\n        loop 1 :\n                loop 1 :\n                        loop 1 :\n\
+\x20                               loop 1 :\n                                        loop 1 :\n\
+\x20                                               loop 1 :\n                                                        feed\n",
     )
 }
 

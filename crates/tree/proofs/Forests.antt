@@ -16,7 +16,7 @@ use Rattle.grammar.specs.declared.rule.Rule.{Rule}
 use Rattle.grammar.specs.Model.{Model, listed}
 use Rattle.tree.specs.Forest.{Forest}
 use Rattle.tree.specs.Forest.Forest.{none, piece, node}
-use Rattle.tree.specs.Walks.{Blocked}
+use Rattle.tree.specs.Covering.{Blocked}
 
 some-items : (is : Items) → 1 ≤ length (listed is)
 some-items (One x) = omega arith
@@ -42,15 +42,18 @@ module _ {G : Model} where
 
   pub stopped : {x : Item} {xs : List Item} {rs ts : List ℕ} → Blocked G (x .symbol) rs ts → Forest G (x ∷ xs) rs ts → ⊥
   stopped {x} {xs} {rs} {ts} b (piece {ts = us} e f) = subst (λ (s : Symbol). Blocked G s rs ts) e b us refl
-  stopped {x} {xs} {rs} {ts} b (node {rs = ss} {r = r} {rule = rule} known e f) = subst (λ (s : Symbol). Blocked G s rs ts) e b r ss rule refl known refl
+  stopped {x} {xs} {rs} {ts} b (node {rs = ss} {r = r} {rule = rule} known e f)
+      = subst (λ (s : Symbol). Blocked G s rs ts) e b r ss rule refl known refl
 
   -- a forest without its first piece
-  pub less-piece : {x : Item} {xs : List Item} {rs ts : List ℕ} {t : ℕ} → x .symbol ≡ Terminal t → Forest G (x ∷ xs) rs (t ∷ ts) → Forest G xs rs ts
+  pub less-piece : {x : Item} {xs : List Item} {rs ts : List ℕ} {t : ℕ} → x .symbol ≡ Terminal t → Forest G (x ∷ xs) rs (t ∷ ts)
+      → Forest G xs rs ts
   less-piece is (piece e f) = f
   less-piece is (node known e f) = absurd (apart (sym is ∙ e))
 
   -- a forest without its first node, whose items come in its place
-  pub less-node : {x : Item} {xs : List Item} {rs ts : List ℕ} {r a : ℕ} (rule : Rule) → x .symbol ≡ Nonterminal a → nth (G .rules) r ≡ Some rule → Forest G (x ∷ xs) (r ∷ rs) ts → Forest G (listed (rule .items) ++ xs) rs ts
+  pub less-node : {x : Item} {xs : List Item} {rs ts : List ℕ} {r a : ℕ} (rule : Rule) → x .symbol ≡ Nonterminal a
+      → nth (G .rules) r ≡ Some rule → Forest G (x ∷ xs) (r ∷ rs) ts → Forest G (listed (rule .items) ++ xs) rs ts
   less-node rule is found (piece e f) = absurd (apart (sym e ∙ is))
   less-node {xs = xs} {rs = rs} {ts = ts} rule is found (node {rule = other} known e f) =
       let o : Some other ≡ Some rule = sym known ∙ found in

@@ -13,7 +13,8 @@ module _ {X : Type 0} (xs : List X) (n : ℕ) where
   pub popped : (d : X) → 1 ≤ n → n ≤ length xs → reverse (take n xs) ≡ getD xs (n - 1) d ∷ reverse (take (n - 1) xs)
   popped d some h =
       let e : n ≡ n - 1 + 1 = omega arith in
-      ap (λ (k : ℕ). reverse (take k xs)) e ∙ ap reverse (take-more xs (n - 1) d (omega arith)) ∙ reverse-append (take (n - 1) xs) (getD xs (n - 1) d ∷ [])
+      ap (λ (k : ℕ). reverse (take k xs)) e ∙ ap reverse (take-more xs (n - 1) d (omega arith))
+      ∙ reverse-append (take (n - 1) xs) (getD xs (n - 1) d ∷ [])
 
   pub high : n ≤ length xs → length (reverse (take n xs)) ≡ n
   high h = length-reverse (take n xs) ∙ length-take-le n xs h

@@ -30,7 +30,8 @@ items-back rule column index (x ∷ xs) = ap (λ (ys : List Item). x ∷ ys) (it
 
 module _ {X : Type 0} (G : Model) where
   -- the items to come where the walk has come to a node, and where it has not
-  pub entered-items : (v : Walk X) (e : Entered) (d : ℕ) → v .entered ≡ Some e → items-of (pending v d) ≡ listed (e .items) ++ items-of (waiting-slots v)
+  pub entered-items : (v : Walk X) (e : Entered) (d : ℕ) → v .entered ≡ Some e
+      → items-of (pending v d) ≡ listed (e .items) ++ items-of (waiting-slots v)
   entered-items v e d is =
       ap (λ (o : Option Entered). items-of (entered-slots o d ++ waiting-slots v)) is
       ∙ map-append (λ (s : Slot). s .item) (slots (e .rule) d 0 (listed (e .items))) (waiting-slots v)
@@ -40,7 +41,8 @@ module _ {X : Type 0} (G : Model) where
   other-items v d is = ap (λ (o : Option Entered). items-of (entered-slots o d ++ waiting-slots v)) is
 
   module _ (w v : Walk X) (x : Item) (d : ℕ) where
-    on : (s : Symbol) → x .symbol ≡ s → Takes G s w v → Forest G (x ∷ items-of (waiting-slots v)) (rules-left w) (terminals-left w) → Ahead G v d
+    on : (s : Symbol) → x .symbol ≡ s → Takes G s w v → Forest G (x ∷ items-of (waiting-slots v)) (rules-left w) (terminals-left w)
+        → Ahead G v d
     on (Terminal t) is (terminals, rules, entered, number) f =
         let a = subst (λ (ts : List ℕ). Forest G (x ∷ items-of (waiting-slots v)) (rules-left w) ts) terminals f in
         let b = less-piece is a in
@@ -52,7 +54,8 @@ module _ {X : Type 0} (G : Model) where
         let t = subst (λ (ts : List ℕ). Forest G (listed (e .items) ++ items-of (waiting-slots v)) (rules-left v) ts) (sym terminals) h in
         subst (λ (xs : List Item). Forest G xs (rules-left v) (terminals-left v)) (sym (entered-items v e d entered)) t
 
-    back : (s : Symbol) → x .symbol ≡ s → Takes G s w v → Ahead G v d → Forest G (x ∷ items-of (waiting-slots v)) (rules-left w) (terminals-left w)
+    back : (s : Symbol) → x .symbol ≡ s → Takes G s w v → Ahead G v d
+        → Forest G (x ∷ items-of (waiting-slots v)) (rules-left w) (terminals-left w)
     back (Terminal t) is (terminals, rules, entered, number) f =
         let a = subst (λ (xs : List Item). Forest G xs (rules-left v) (terminals-left v)) (other-items v d entered) f in
         let b = subst (λ (rs : List ℕ). Forest G (items-of (waiting-slots v)) rs (terminals-left v)) rules a in
@@ -62,23 +65,28 @@ module _ {X : Type 0} (G : Model) where
         let b = subst (λ (ts : List ℕ). Forest G (listed (e .items) ++ items-of (waiting-slots v)) (rules-left v) ts) terminals h in
         subst (λ (rs : List ℕ). Forest G (x ∷ items-of (waiting-slots v)) rs (terminals-left w)) (sym rules) (node known is b)
 
-    nearer : (s : Symbol) → Takes G s w v → length (rules-left v) + length (terminals-left v) < length (rules-left w) + length (terminals-left w)
+    nearer : (s : Symbol) → Takes G s w v
+        → length (rules-left v) + length (terminals-left v) < length (rules-left w) + length (terminals-left w)
     nearer (Terminal t) (terminals, rules, entered, number) = let a = ap length terminals in let b = ap length rules in omega arith
-    nearer (Nonterminal a) (e, entered, known, rules, terminals, number) = let b = ap length rules in let c = ap length terminals in omega arith
+    nearer (Nonterminal a) (e, entered, known, rules, terminals, number) = let b = ap length rules in let c
+        = ap length terminals in omega arith
 
   module _ (column d : ℕ) (w v : Walk X) (s : Step) (came : Came G column w v s) where
     pub came-on : Ahead G w column → Ahead G v d
-    came-on f = on w v (s .item) d (s .item .symbol) refl (came .takes) (subst (λ (ss : List Slot). Forest G (items-of ss) (rules-left w) (terminals-left w)) (came .slot) f)
+    came-on f = on w v (s .item) d (s .item .symbol) refl (came .takes)
+        (subst (λ (ss : List Slot). Forest G (items-of ss) (rules-left w) (terminals-left w)) (came .slot) f)
 
     pub came-back : Ahead G v d → Ahead G w column
-    came-back f = subst (λ (ss : List Slot). Forest G (items-of ss) (rules-left w) (terminals-left w)) (sym (came .slot)) (back w v (s .item) d (s .item .symbol) refl (came .takes) f)
+    came-back f = subst (λ (ss : List Slot). Forest G (items-of ss) (rules-left w) (terminals-left w)) (sym (came .slot))
+        (back w v (s .item) d (s .item .symbol) refl (came .takes) f)
 
     pub came-nearer : length (rules-left v) + length (terminals-left v) < length (rules-left w) + length (terminals-left w)
     came-nearer = nearer w v (s .item) d (s .item .symbol) (came .takes)
 
   module _ (rules terminals : List ℕ) (w : Walk X) (begun : Begun G rules terminals w) (c : ℕ) where
     whole : items-of (pending w c) ≡ listed (begun .top .items)
-    whole = entered-items w (begun .top) c (begun .entered) ∙ ap (λ (ss : List Slot). listed (begun .top .items) ++ items-of ss) (begun .slots) ∙ append-nil (listed (begun .top .items))
+    whole = entered-items w (begun .top) c (begun .entered)
+        ∙ ap (λ (ss : List Slot). listed (begun .top .items) ++ items-of ss) (begun .slots) ∙ append-nil (listed (begun .top .items))
 
     pub tree-ahead : Tree G rules terminals → Ahead G w c
     tree-ahead t =

@@ -13,7 +13,8 @@ use Rattle.grammar.specs.declared.rule.Rule.{Rule}
 use Rattle.grammar.specs.declared.rule.Symbol.the-variants.{Nonterminal}
 use Rattle.grammar.specs.Model.{Model}
 use Rattle.tree.specs.declared.node.Node.{Node}
-use Rattle.tree.specs.Walks.{Blocked, rules-of}
+use Rattle.tree.specs.Covering.{Blocked}
+use Rattle.tree.specs.Walks.{rules-of}
 
 -- a contradiction between variants, or between an element and no element
 clash : {X : Type 0} {x : X} → Some x ≡ None → ⊥
@@ -67,7 +68,8 @@ module _ (G : Model) (ns : List Node) (ts : List ℕ) (i a : ℕ) (d : Node) (he
       let s : getD ns i d .rule ≡ r = cc in
       clash (sym (ap (nth (G .rules)) s ∙ known) ∙ sym none)
 
-  pub other-left : (rule : Rule) → Some rule ≡ nth (G .rules) (getD ns i d .rule) → (rule .left ≡ a → ⊥) → Blocked G (Nonterminal a) (drop i (rules-of ns)) ts
+  pub other-left : (rule : Rule) → Some rule ≡ nth (G .rules) (getD ns i d .rule) → (rule .left ≡ a → ⊥)
+      → Blocked G (Nonterminal a) (drop i (rules-of ns)) ts
   other-left found is apart r rs rule e known left =
       let f = rule-next ns i d here in
       let s : getD ns i d .rule ≡ r = cc in
@@ -79,7 +81,9 @@ pub some-left : {X : Type 0} (xs : List X) (i : ℕ) → i < length xs → drop 
 some-left xs i here e = let l = length-drop i xs in let n : length (drop i xs) ≡ 0 = ap length e in omega arith
 
 pub some-rule : (ns : List Node) (i : ℕ) → i < length ns → drop i (rules-of ns) ≡ [] → ⊥
-some-rule ns i here e = let l : length (rules-of ns) ≡ length ns = length-map ns (λ (n : Node). n .rule) in some-left (rules-of ns) i (omega arith) e
+some-rule ns i here e = let l : length (rules-of ns) ≡ length ns
+    = length-map ns (λ (n : Node). n .rule) in some-left (rules-of ns) i (omega arith) e
 
 pub no-rules : (ns : List Node) (i : ℕ) → length ns ≤ i → drop i (rules-of ns) ≡ []
-no-rules ns i end = let l : length (rules-of ns) ≡ length ns = length-map ns (λ (n : Node). n .rule) in drop-all i (rules-of ns) (omega arith)
+no-rules ns i end = let l : length (rules-of ns) ≡ length ns
+    = length-map ns (λ (n : Node). n .rule) in drop-all i (rules-of ns) (omega arith)

@@ -5,7 +5,6 @@ use Prim.Native.Nat.{ℕ, _+_, _<_, _≤_}
 use native.Mathlib.Omega.{arith}
 use lib.ListN.{length, drop}
 use denote.Ref.{now}
-use Rattle.std.specs.Results.{Cases}
 use Rattle.std.specs.declared.option.Option.{Option}
 use Rattle.std.specs.declared.option.Option.the-variants.{Some, None}
 use Rattle.std.specs.declared.result.Result.{Result}
@@ -20,7 +19,8 @@ use Rattle.tree.specs.declared.walk.Step.{Step}
 use Rattle.tree.specs.Forest.{Forest}
 use Rattle.tree.specs.Slots.{Slot}
 use Rattle.tree.specs.Terminals.{listed}
-use Rattle.tree.specs.Walks.{Ahead, Blocked, Ended, Nexts, Same, Still, items-of, pending, rules-left, terminals-left, waiting-slots}
+use Rattle.tree.specs.Covering.{Blocked, Ends, Still}
+use Rattle.tree.specs.Walks.{Ahead, Ended, Nexts, Same, items-of, pending, rules-left, terminals-left, waiting-slots}
 use Rattle.tree.proofs.Forests.{ended, covers, stopped}
 
 module _ {X : Type 0} (G : Model) (column : ℕ) (w v : Walk X) (still : Still w v) where
@@ -30,13 +30,10 @@ module _ {X : Type 0} (G : Model) (column : ℕ) (w v : Walk X) (still : Still w
   terminals-same : terminals-left v ≡ terminals-left w
   terminals-same = let a = still .same .terminals in let b = still .piece in cc
 
-  clash : {s : Step} → Some s ≡ None → ⊥
-  clash e = let z : _≡_ {A = ℕ} 0 1 = cc in omega arith
-
   -- at the end
-  pub at-end : (u : Walk X) (r : Result (Option Step) Fault) → pending w column ≡ [] → Cases r (λ o. (o ≡ None) × (rules-left v ≡ []) × (terminals-left v ≡ [])) (λ f. (f ≡ GrammarMismatch) × (rules-left v ≡ [] → terminals-left v ≡ [] → ⊥)) → Nexts G column w u r
-  at-end u (Ok None) empty e = record { slots = empty; rules = sym rules-same ∙ e .1; terminals = sym terminals-same ∙ e .2 }
-  at-end u (Ok (Some s)) empty e = absurd (clash (e .0))
+  pub at-end : (u : Walk X) (r : Result (Option Step) Fault) → pending w column ≡ [] → Ends v r → Nexts G column w u r
+  at-end u (Ok None) empty e = record { slots = empty; rules = sym rules-same ∙ e .0; terminals = sym terminals-same ∙ e .1 }
+  at-end u (Ok (Some s)) empty e = absurd e
   at-end u (Err f) empty e = (
     e .0,
     λ ahead.
@@ -54,14 +51,15 @@ module _ {X : Type 0} (G : Model) (column : ℕ) (w v : Walk X) (still : Still w
       omega arith
 
   -- at an item that is not what comes next
-  pub at-other : (s : Slot) (rest : List Slot) → pending w column ≡ s ∷ rest → Blocked G (s .item .symbol) (rules-left v) (terminals-left v) → Ahead G w column → ⊥
+  pub at-other : (s : Slot) (rest : List Slot) → pending w column ≡ s ∷ rest
+      → Blocked G (s .item .symbol) (rules-left v) (terminals-left v) → Ahead G w column → ⊥
   at-other s rest e b ahead =
       let f = subst (λ (ss : List Slot). Forest G (items-of ss) (rules-left w) (terminals-left w)) e ahead in
       let g = subst (λ (ts : List ℕ). Forest G (items-of (s ∷ rest)) (rules-left w) ts) (sym terminals-same) f in
       let h = subst (λ (rs : List ℕ). Forest G (items-of (s ∷ rest)) rs (terminals-left v)) (sym rules-same) g in
       stopped b h
 
-module _ {X : Type 0} {u v w : Walk X} where
+module _ {X : Type 0} (u v w : Walk X) where
   pub same-on : Same u v → Same v w → Same u w
   same-on a b = record { grammar = b .grammar ∙ a .grammar; nodes = b .nodes ∙ a .nodes; terminals = b .terminals ∙ a .terminals }
 

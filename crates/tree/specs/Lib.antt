@@ -1,3 +1,4 @@
+pub mod Covering
 pub mod Fits
 pub mod Forest
 pub mod Pieces

@@ -1,6 +1,5 @@
 -- The terminals of pieces.
 --   listed         the terminals in the order of the pieces
---   Named          the answer to what the terminals are, some or none: those, or a refusal
 --   terminals-of   what a grammar gives pieces whose bytes stand without gaps; none where it has none for one of them
 use mathlib.Core.Path.{_≡_}
 use mathlib.Core.List.{List, [], _∷_}
@@ -29,6 +28,6 @@ abbrev pub terminals-of : Model → List ℕ → List PieceRecord → Option (Li
 terminals-of G bytes [] = Some []
 terminals-of G bytes (p ∷ ps) = before (terminal-of G (take (p .length) bytes)) (terminals-of G (drop (p .length) bytes) ps)
 
-abbrev pub Named : Option (List ℕ) → Result Terminals Fault → Type 0
-Named o (Ok ts) = o ≡ Some (listed ts)
-Named o (Err f) = (o ≡ None) × (f ≡ GrammarMismatch)
+abbrev pub Named : Model → List ℕ → List PieceRecord → Result Terminals Fault → Type 0
+Named G bytes ps (Ok ts) = terminals-of G bytes ps ≡ Some (listed ts)
+Named G bytes ps (Err f) = (terminals-of G bytes ps ≡ None) × (f ≡ GrammarMismatch)

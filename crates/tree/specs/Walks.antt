@@ -10,7 +10,7 @@
 use mathlib.Core.Path.{_≡_}
 use mathlib.Core.List.{List, [], _∷_, _++_, map}
 use Prim.Native.Nat.{ℕ, _+_}
-use denote.Ref.{now}
+use denote.Ref.{RefT, now}
 use lib.ListN.{drop}
 use Rattle.std.specs.Joined.{joined}
 use Rattle.std.specs.Runs.{nth}
@@ -23,11 +23,10 @@ use Rattle.faults.specs.declared.fault.Fault.the-variants.{GrammarMismatch}
 use Rattle.grammar.specs.declared.rule.Symbol.{Symbol}
 use Rattle.grammar.specs.declared.rule.Symbol.the-variants.{Terminal, Nonterminal}
 use Rattle.grammar.specs.declared.rule.Item.{Item}
-use Rattle.grammar.specs.declared.rule.Rule.{Rule}
 use Rattle.grammar.specs.Model.{Model}
-use Rattle.tree.specs.declared.frame.Frame.{Frame}
 use Rattle.tree.specs.declared.frame.Entered.{Entered}
 use Rattle.tree.specs.declared.node.Node.{Node}
+use Rattle.tree.specs.declared.terminals.Terminals.{Terminals}
 use Rattle.tree.specs.declared.walk.Walk.{Walk}
 use Rattle.tree.specs.declared.walk.Step.{Step}
 use Rattle.tree.specs.Forest.{Forest, Tree}
@@ -69,7 +68,8 @@ module _ {X : Type 0} where
   Ahead G w column = Forest G (items-of (pending w column)) (rules-left w) (terminals-left w)
 
   abbrev pub Takes : Model → Symbol → Walk X → Walk X → Type 0
-  Takes G (Terminal t) w v = (terminals-left w ≡ t ∷ terminals-left v) × (rules-left v ≡ rules-left w) × (v .entered ≡ None) × (v .piece ≡ w .piece + 1)
+  Takes G (Terminal t) w v =
+      (terminals-left w ≡ t ∷ terminals-left v) × (rules-left v ≡ rules-left w) × (v .entered ≡ None) × (v .piece ≡ w .piece + 1)
   Takes G (Nonterminal a) w v =
       (e : Entered)
       × (v .entered ≡ Some e)
@@ -83,6 +83,10 @@ module _ {X : Type 0} where
     pub piece : s .piece ≡ w .piece
     pub takes : Takes G (s .item .symbol) w v
 
+  -- a walk under that grammar over those nodes and terminals
+  abbrev pub Over : RefT X → RefT (List Node) → RefT Terminals → Walk X → Type 0
+  Over grammar nodes terminals w = (w .grammar ≡ grammar) × (w .nodes ≡ nodes) × (w .terminals ≡ terminals)
+
   pub record Begun (G : Model) (rules terminals : List ℕ) (w : Walk X) : Type 0 where
     pub top : Entered
     pub entered : w .entered ≡ Some top
@@ -92,12 +96,6 @@ module _ {X : Type 0} where
     pub terminals-rest : terminals-left w ≡ terminals
     pub slots : waiting-slots w ≡ []
     pub piece : w .piece ≡ 0
-
-  -- a walk that stands where the other does
-  pub record Still (w v : Walk X) : Type 0 where
-    pub same : Same w v
-    pub node : v .node ≡ w .node
-    pub piece : v .piece ≡ w .piece
 
   pub record Ended (column : ℕ) (w : Walk X) : Type 0 where
     pub slots : pending w column ≡ []
@@ -112,8 +110,3 @@ module _ {X : Type 0} where
   abbrev pub Begins : Model → List ℕ → List ℕ → Result (Walk X) Fault → Type 0
   Begins G rules terminals (Ok w) = Begun G rules terminals w
   Begins G rules terminals (Err f) = (f ≡ GrammarMismatch) × (Tree G rules terminals → ⊥)
-
--- no piece and no node that comes next is what the symbol stands for
-abbrev pub Blocked : Model → Symbol → List ℕ → List ℕ → Type 0
-Blocked G (Terminal t) rules terminals = (ts : List ℕ) → terminals ≡ t ∷ ts → ⊥
-Blocked G (Nonterminal a) rules terminals = (r : ℕ) (rs : List ℕ) (rule : Rule) → rules ≡ r ∷ rs → nth (G .rules) r ≡ Some rule → rule .left ≡ a → ⊥

@@ -1,7 +1,4 @@
-ghost use mathlib.Core.Path.{_≡_};
-ghost use Rattle.std.specs.Results.{Cases};
-ghost use Rattle.faults.specs.declared.fault.Fault.the-variants.{GrammarMismatch};
-ghost use Rattle.tree.specs.Forest.{Tree};
+ghost use Rattle.tree.specs.Forest.{Judges};
 ghost use Rattle.tree.specs.Terminals.{listed};
 ghost use Rattle.tree.specs.Walks.{«rules-of»};
 use crate::node::Node;
@@ -16,7 +13,7 @@ pub fn judge<'a, G: Grammar>(
     nodes: &'a [Node],
     terminals: &'a Terminals,
 ) -> Result<(), Fault>
-    ensures { λ r. ⌜ Cases r (λ _. Tree (G·Grammar .model (now (grammar .entry))) («rules-of» (now (nodes .entry))) (listed (now (terminals .entry)))) (λ f. (f ≡ GrammarMismatch) × (Tree (G·Grammar .model (now (grammar .entry))) («rules-of» (now (nodes .entry))) (listed (now (terminals .entry))) → ⊥)) ⌝ }
+    ensures { λ r. ⌜ Judges (model (now (grammar .entry))) («rules-of» (now (nodes .entry))) (listed (now (terminals .entry))) r ⌝ }
 {
     let mut walk = Walk::new(grammar, nodes, terminals)?;
     while let Some(_) = walk.next(0)? {}

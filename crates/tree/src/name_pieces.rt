@@ -2,7 +2,7 @@ ghost use mathlib.Core.Path.{_≡_};
 ghost use lib.ListN.{length};
 ghost use denote.Ref.{now as mem};
 ghost use Rattle.std.specs.Runs.{nth};
-ghost use Rattle.tree.specs.Terminals.{listed, «terminals-of», Named};
+ghost use Rattle.tree.specs.Terminals.{Named, listed};
 use crate::contents::Contents;
 use crate::terminals::Terminals;
 use faults::fault::Fault;
@@ -11,7 +11,8 @@ use grammar::grammar::Grammar;
 impl Terminals {
     // The terminals that a grammar gives the pieces; refused where a piece has none.
     pub fn of<G: Grammar>(grammar: &G, contents: &Contents) -> Result<Terminals, Fault>
-        ensures { λ r. ⌜ Named («terminals-of» (G·Grammar .model (now (grammar .entry))) (mem (now (contents .entry) .bytes)) (mem (now (contents .entry) .pieces))) r ⌝ }
+        ensures { λ r. ⌜ Named (model (now (grammar .entry))) (mem (now (contents .entry) .bytes))
+            (mem (now (contents .entry) .pieces)) r ⌝ }
     {
         let mut list = [0; 128];
         let mut start = 0;

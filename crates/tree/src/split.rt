@@ -3,7 +3,7 @@ ghost use mathlib.Core.List.{_∷_};
 ghost use Prim.Native.Nat.{_+_, _≤_};
 ghost use lib.ListN.{length};
 ghost use Rattle.grammar.specs.Model.{listed};
-ghost use Rattle.tree.specs.Slots.{slots, «frame-slots», «rest-slots»};
+ghost use Rattle.tree.specs.Slots.{«frame-slots», «rest-slots», «slot-at», «slots-behind»};
 use crate::frame::Frame;
 use grammar::rule::Item;
 use grammar::rule::Items;
@@ -11,7 +11,7 @@ use grammar::rule::Items;
 impl Frame {
     // The item that comes next, and the node with the items behind it, if there are any.
     pub(crate) fn split(&self) -> (Item, Option<Frame>)
-        ensures { λ r. ⌜ «frame-slots» (now (self .entry)) ≡ record { rule = now (self .entry) .rule; column = now (self .entry) .column; index = now (self .entry) .index; item = r .0 } ∷ «rest-slots» (r .1) ⌝ }
+        ensures { λ r. ⌜ «frame-slots» (now (self .entry)) ≡ «slot-at» (now (self .entry)) (r .0) ∷ «rest-slots» (r .1) ⌝ }
     {
         match self.items {
             Items::One(x) => (x, None),
@@ -23,7 +23,7 @@ impl Frame {
     // The node with these items behind its next one.
     fn behind(&self, items: Items) -> Frame
         requires { ⌜ now self .index + 1 + length (listed items) ≤ 3 ⌝ }
-        ensures { λ r. ⌜ «frame-slots» r ≡ slots (now (self .entry) .rule) (now (self .entry) .column) (now (self .entry) .index + 1) (listed items) ⌝ }
+        ensures { λ r. ⌜ «frame-slots» r ≡ «slots-behind» (now (self .entry)) items ⌝ }
     {
         Frame {
             rule: self.rule,

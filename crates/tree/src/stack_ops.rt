@@ -3,8 +3,7 @@ ghost use mathlib.Core.Bool.{cond};
 ghost use mathlib.Core.List.{[], _∷_};
 ghost use lib.ListN.{length};
 ghost use lib.Dec.{ltb};
-ghost use Rattle.std.specs.Options.{Cases as BySome};
-ghost use Rattle.tree.specs.Stack.{waiting};
+ghost use Rattle.tree.specs.Stack.{Pops, waiting};
 use crate::stack::Stack;
 
 impl<T: Copy> Stack<T> {
@@ -33,7 +32,7 @@ impl<T: Copy> Stack<T> {
 
     // Takes the last entry; none where nothing waits.
     pub fn pop(&mut self) -> Option<T>
-        ensures { λ r. ⌜ BySome r ((waiting (now (self .entry)) ≡ []) × (waiting (now (self .exit)) ≡ [])) (λ x. waiting (now (self .entry)) ≡ x ∷ waiting (now (self .exit))) ⌝ }
+        ensures { λ r. ⌜ Pops (waiting (now (self .entry))) (waiting (now (self .exit))) r ⌝ }
     {
         if self.count == 0 {
             return None;

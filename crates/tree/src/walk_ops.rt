@@ -1,17 +1,11 @@
 ghost use mathlib.Core.Path.{_≡_};
-ghost use mathlib.Core.List.{[], _++_, _∷_};
-ghost use Prim.Native.Nat.{_+_, _<_};
 ghost use denote.Ref.{now as mem};
-ghost use lib.ListN.{length};
-ghost use Rattle.std.specs.Options.{Cases as BySome};
-ghost use Rattle.std.specs.Results.{Cases};
 ghost use Rattle.std.specs.Vec.{made};
 ghost use Rattle.std.specs.declared.option.Option.the-variants.{None};
-ghost use Rattle.faults.specs.declared.fault.Fault.the-variants.{GrammarMismatch};
 ghost use Rattle.grammar.specs.declared.rule.Symbol.the-variants.{Terminal, Nonterminal};
-ghost use Rattle.tree.specs.Slots.{«frame-slots», «rest-slots»};
+ghost use Rattle.tree.specs.Covering.{Covers, Ends, Keeps, Opens, Still};
 ghost use Rattle.tree.specs.Terminals.{listed};
-ghost use Rattle.tree.specs.Walks.{Begins, Blocked, Nexts, Same, Still, Takes, pending, «rules-left», «rules-of», «terminals-left», «waiting-slots»};
+ghost use Rattle.tree.specs.Walks.{Begins, Nexts, Over, Same, «rules-of»};
 use crate::frame::Entered;
 use crate::frame::Frame;
 use crate::node::Node;
@@ -30,8 +24,8 @@ impl<'a, G: Grammar> Walk<'a, G> {
         nodes: &'a [Node],
         terminals: &'a Terminals,
     ) -> Result<Walk<'a, G>, Fault>
-        ensures over { λ r. ⌜ made r (λ w. (w .grammar ≡ grammar .entry) × (w .nodes ≡ nodes .entry) × (w .terminals ≡ terminals .entry)) ⌝ }
-        ensures top { λ r. ⌜ Begins (G·Grammar .model (now (grammar .entry))) («rules-of» (now (nodes .entry))) (listed (now (terminals .entry))) r ⌝ }
+        ensures over { λ r. ⌜ made r (Over (grammar .entry) (nodes .entry) (terminals .entry)) ⌝ }
+        ensures top { λ r. ⌜ Begins (model (now (grammar .entry))) («rules-of» (now (nodes .entry))) (listed (now (terminals .entry))) r ⌝ }
     {
         if nodes.len() == 0 {
             return Err(Fault::GrammarMismatch);
@@ -65,7 +59,7 @@ impl<'a, G: Grammar> Walk<'a, G> {
     // Refused where the rule numbers do not give one tree over just these pieces.
     pub fn next(&mut self, column: u8) -> Result<Option<Step>, Fault>
         ensures same { λ _. ⌜ Same (now (self .entry)) (now (self .exit)) ⌝ }
-        ensures next { λ r. ⌜ Nexts (G·Grammar .model (mem (now (self .entry) .grammar))) column (now (self .entry)) (now (self .exit)) r ⌝ }
+        ensures next { λ r. ⌜ Nexts (model (mem (now (self .entry) .grammar))) column (now (self .entry)) (now (self .exit)) r ⌝ }
     {
         let Some(frame) = self.open(column) else {
             return self.end();
@@ -87,7 +81,7 @@ impl<'a, G: Grammar> Walk<'a, G> {
     fn open(&mut self, column: u8) -> Option<Frame>
         ensures still { λ _. ⌜ Still (now (self .entry)) (now (self .exit)) ⌝ }
         ensures entered { λ _. ⌜ now (self .exit) .entered ≡ None ⌝ }
-        ensures slots { λ r. ⌜ BySome r (pending (now (self .entry)) column ≡ []) (λ f. pending (now (self .entry)) column ≡ «frame-slots» f ++ «waiting-slots» (now (self .exit))) ⌝ }
+        ensures slots { λ r. ⌜ Opens column (now (self .entry)) (now (self .exit)) r ⌝ }
     {
         match self.entered {
             Some(node) => {
@@ -107,7 +101,7 @@ impl<'a, G: Grammar> Walk<'a, G> {
     fn keep(&mut self, rest: Option<Frame>) -> Result<(), Fault>
         ensures still { λ _. ⌜ Still (now (self .entry)) (now (self .exit)) ⌝ }
         ensures entered { λ _. ⌜ now (self .exit) .entered ≡ now (self .entry) .entered ⌝ }
-        ensures slots { λ r. ⌜ Cases r (λ _. «waiting-slots» (now (self .exit)) ≡ «rest-slots» rest ++ «waiting-slots» (now (self .entry))) (λ f. (f ≡ GrammarMismatch) × (128 < length («rest-slots» rest ++ «waiting-slots» (now (self .entry))))) ⌝ }
+        ensures slots { λ r. ⌜ Keeps rest (now (self .entry)) (now (self .exit)) r ⌝ }
     {
         match rest {
             Some(frame) if !self.waiting.push(frame) => Err(Fault::GrammarMismatch),
@@ -117,11 +111,11 @@ impl<'a, G: Grammar> Walk<'a, G> {
 
     // Takes the next piece, which should have that terminal.
     fn take_piece(&mut self, terminal: u8) -> Result<(), Fault>
+        requires { ⌜ now self .entered ≡ None ⌝ }
         ensures same { λ _. ⌜ Same (now (self .entry)) (now (self .exit)) ⌝ }
         ensures waiting { λ _. ⌜ now (self .exit) .waiting ≡ now (self .entry) .waiting ⌝ }
-        ensures entered { λ _. ⌜ now (self .exit) .entered ≡ now (self .entry) .entered ⌝ }
-        ensures node { λ _. ⌜ now (self .exit) .node ≡ now (self .entry) .node ⌝ }
-        ensures piece { λ r. ⌜ Cases r (λ _. («terminals-left» (now (self .entry)) ≡ terminal ∷ «terminals-left» (now (self .exit))) × (now (self .exit) .piece ≡ now (self .entry) .piece + 1)) (λ f. (f ≡ GrammarMismatch) × Blocked (G·Grammar .model (mem (now (self .entry) .grammar))) (Terminal terminal) («rules-left» (now (self .entry))) («terminals-left» (now (self .entry)))) ⌝ }
+        ensures takes { λ r. ⌜ Covers (model (mem (now (self .entry) .grammar))) (Terminal terminal)
+            (now (self .entry)) (now (self .exit)) r ⌝ }
     {
         let Some(found) = self.terminals.get(self.piece) else {
             return Err(Fault::GrammarMismatch);
@@ -137,7 +131,8 @@ impl<'a, G: Grammar> Walk<'a, G> {
     fn take_node(&mut self, left: u8) -> Result<(), Fault>
         ensures same { λ _. ⌜ Same (now (self .entry)) (now (self .exit)) ⌝ }
         ensures waiting { λ _. ⌜ now (self .exit) .waiting ≡ now (self .entry) .waiting ⌝ }
-        ensures node { λ r. ⌜ Cases r (λ _. Takes (G·Grammar .model (mem (now (self .entry) .grammar))) (Nonterminal left) (now (self .entry)) (now (self .exit))) (λ f. (f ≡ GrammarMismatch) × Blocked (G·Grammar .model (mem (now (self .entry) .grammar))) (Nonterminal left) («rules-left» (now (self .entry))) («terminals-left» (now (self .entry)))) ⌝ }
+        ensures takes { λ r. ⌜ Covers (model (mem (now (self .entry) .grammar))) (Nonterminal left)
+            (now (self .entry)) (now (self .exit)) r ⌝ }
     {
         if self.node >= self.nodes.len() {
             return Err(Fault::GrammarMismatch);
@@ -162,7 +157,7 @@ impl<'a, G: Grammar> Walk<'a, G> {
         requires { ⌜ now self .entered ≡ None ⌝ }
         ensures same { λ _. ⌜ Same (now (self .entry)) (now (self .exit)) ⌝ }
         ensures waiting { λ _. ⌜ now (self .exit) .waiting ≡ now (self .entry) .waiting ⌝ }
-        ensures takes { λ r. ⌜ Cases r (λ _. Takes (G·Grammar .model (mem (now (self .entry) .grammar))) symbol (now (self .entry)) (now (self .exit))) (λ f. (f ≡ GrammarMismatch) × Blocked (G·Grammar .model (mem (now (self .entry) .grammar))) symbol («rules-left» (now (self .entry))) («terminals-left» (now (self .entry)))) ⌝ }
+        ensures takes { λ r. ⌜ Covers (model (mem (now (self .entry) .grammar))) symbol (now (self .entry)) (now (self .exit)) r ⌝ }
     {
         match symbol {
             Symbol::Terminal(terminal) => self.take_piece(terminal),
@@ -172,7 +167,7 @@ impl<'a, G: Grammar> Walk<'a, G> {
 
     // The end, where nothing is left over.
     fn end(&self) -> Result<Option<Step>, Fault>
-        ensures { λ r. ⌜ Cases r (λ o. (o ≡ None) × («rules-left» (now (self .entry)) ≡ []) × («terminals-left» (now (self .entry)) ≡ [])) (λ f. (f ≡ GrammarMismatch) × («rules-left» (now (self .entry)) ≡ [] → «terminals-left» (now (self .entry)) ≡ [] → ⊥)) ⌝ }
+        ensures { λ r. ⌜ Ends (now (self .entry)) r ⌝ }
     {
         if self.node < self.nodes.len() || self.piece < self.terminals.len() {
             return Err(Fault::GrammarMismatch);

@@ -14,7 +14,8 @@ Inv-loop-step g l =
     × (length (l .placer .list) ≡ 128)
     × (l .walk .piece ≤ length (now (l .contents .pieces)))
     × Ahead (g .G·Grammar .model (l .grammar)) (l .walk) (l .column)
-    × SoFar (g .G·Grammar .model (l .grammar)) (g .P·Policy .answers (l .policy)) (rules-of (now (l .contents .nodes))) (lengths (now (l .contents .pieces))) (l .walk) (l .column) (l .placer)
+    × SoFar (g .G·Grammar .model (l .grammar)) (g .P·Policy .answers (l .policy)) (rules-of (now (l .contents .nodes)))
+    (lengths (now (l .contents .pieces))) (l .walk) (l .column) (l .placer)
 
 abbrev pub μ-loop-step : given.MeasureT-loop-step
 μ-loop-step g l = length (rules-left (l .walk)) + length (terminals-left (l .walk))

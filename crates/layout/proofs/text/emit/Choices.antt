@@ -13,5 +13,6 @@ Inv-loop-piece l =
     × (length (now (l .writer .out)) ≡ length (now (l .entry .writer .out)))
     × (l .start + total (drop (l .piece-index) (now (l .contents .pieces))) ≡ length (now (l .contents .bytes)))
     × (l .writer .position + width (l .reached) (drop (l .piece-index) (now (l .contents .pieces))) ≡ width 0 (now (l .contents .pieces)))
-    × (take (l .writer .position) (now (l .writer .out)) ++ text (l .reached) (drop (l .piece-index) (now (l .contents .pieces))) (drop (l .start) (now (l .contents .bytes))) ≡ text 0 (now (l .contents .pieces)) (now (l .contents .bytes)))
+    × (take (l .writer .position) (now (l .writer .out)) ++ text (l .reached) (drop (l .piece-index) (now (l .contents .pieces)))
+    (drop (l .start) (now (l .contents .bytes))) ≡ text 0 (now (l .contents .pieces)) (now (l .contents .bytes)))
     × (drop (l .writer .position) (now (l .writer .out)) ≡ drop (l .writer .position) (now (l .entry .writer .out)))

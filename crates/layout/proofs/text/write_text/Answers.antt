@@ -3,7 +3,8 @@ use Rattle.layout.proofs.Widths.{text-wide}
 use Rattle.layout.proofs.text.write_text.Needs as need
 
 pub emit-requires : need.emit-requires
-emit-requires c κs = let w = text-wide 0 (c .args .contents .now .pieces .now) (c .args .contents .now .bytes .now) (omega arith) in omega arith
+emit-requires c κs = let w = text-wide 0 (c .args .contents .now .pieces .now) (c .args .contents .now .bytes .now) (omega arith)
+    in omega arith
 
 pub returns : need.returns
 returns c =

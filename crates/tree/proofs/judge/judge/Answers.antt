@@ -8,7 +8,8 @@ loop-again g c =
     let G = g .G·Grammar .model (c .args .grammar .now) in
     let w = c .loop .walk in
     let v = c .next .last .self in
-    let answer = under 0 w v (c .in-Continue-next .field-0) (ap (g .G·Grammar .model) (c .loop .inv .0)) (c .in-Continue-next .ensures tt .next) in
+    let answer = under 0 w v (c .in-Continue-next .field-0) (ap (g .G·Grammar .model) (c .loop .inv .0))
+    (c .in-Continue-next .ensures tt .next) in
     let came = at-some G 0 w v _ _ (c .in-Some .is) answer in (
       ap now (c .in-Continue-next .ensures tt .same .grammar) ∙ c .loop .inv .0,
       λ ahead. c .loop .inv .1 (came-back G 0 0 w v (c .in-Some .field-0) came ahead),
@@ -20,5 +21,6 @@ returns g c =
     let G = g .G·Grammar .model (c .args .grammar .now) in
     let w = c .loop .walk in
     let v = c .next .last .self in
-    let answer = under 0 w v (c .in-Continue-next .field-0) (ap (g .G·Grammar .model) (c .loop .inv .0)) (c .in-Continue-next .ensures tt .next) in
+    let answer = under 0 w v (c .in-Continue-next .field-0) (ap (g .G·Grammar .model) (c .loop .inv .0))
+    (c .in-Continue-next .ensures tt .next) in
     c .loop .inv .1 (at-none G 0 w v _ (c .in-rest .is) answer)

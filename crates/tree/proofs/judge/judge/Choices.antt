@@ -10,8 +10,10 @@ use Rattle.tree.proofs.judge.judge.Given as given
 abbrev pub Inv-loop : given.InvT-loop
 Inv-loop g l =
     (now (l .walk .grammar) ≡ l .grammar)
-    × (Ahead (g .G·Grammar .model (l .grammar)) (l .walk) 0 → Tree (g .G·Grammar .model (l .grammar)) (rules-of (l .nodes)) (listed (l .terminals)))
-    × (Tree (g .G·Grammar .model (l .grammar)) (rules-of (l .nodes)) (listed (l .terminals)) → Ahead (g .G·Grammar .model (l .grammar)) (l .walk) 0)
+    × (Ahead (g .G·Grammar .model (l .grammar)) (l .walk) 0
+    → Tree (g .G·Grammar .model (l .grammar)) (rules-of (l .nodes)) (listed (l .terminals)))
+    × (Tree (g .G·Grammar .model (l .grammar)) (rules-of (l .nodes)) (listed (l .terminals))
+    → Ahead (g .G·Grammar .model (l .grammar)) (l .walk) 0)
 
 abbrev pub μ-loop : given.MeasureT-loop
 μ-loop g l = length (rules-left (l .walk)) + length (terminals-left (l .walk))

@@ -10,4 +10,5 @@ returns-in-Break-self g c =
 
 pub returns : need.returns
 returns g c =
-    read-held _ _ _ _ (c .args .self .now) (c .first-reading .last .nodes) _ (c .first-reading .kept .nodes) (c .in-Continue-self .ensures tt .answer)
+    read-held _ _ _ _ (c .args .self .now) (c .first-reading .last .nodes) _ (c .first-reading .kept .nodes) (c .in-Continue-self
+    .ensures tt .answer)

@@ -19,5 +19,6 @@ spaces-requires-else-piece c κs = let l = long-on (c .args .reached) (c .args .
 
 pub returns-then-piece : need.returns-then-piece
 returns-then-piece c =
-    subst (λ (xs : List ℕ). Wrote (c .args .self .now) (c .spaces .last .self) xs) (sym (lead-new (c .args .reached) (c .args .piece .now) (c .if-piece .taken)))
+    subst (λ (xs : List ℕ). Wrote (c .args .self .now) (c .spaces .last .self) xs)
+    (sym (lead-new (c .args .reached) (c .args .piece .now) (c .if-piece .taken)))
     (wrote-on (c .args .self .now) (c .put .last .self) (c .spaces .last .self) _ _ (c .put .ensures) (c .spaces .ensures))

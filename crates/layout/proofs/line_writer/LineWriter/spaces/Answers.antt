@@ -12,7 +12,8 @@ returns c =
     let out = c .args .self .now .out .now in
     let wrote = c .fill .last .self in
     let at = c .args .self .now .position in
-    let is : wrote ≡ replicate (c .args .count) 32 = c .fill .ensures .after (λ y h. h) ∙ ap (λ (n : ℕ). replicate n 32) (part-long out at (c .args .count) (c .pre)) in
+    let is : wrote ≡ replicate (c .args .count) 32 = c .fill .ensures .after (λ y h. h)
+    ∙ ap (λ (n : ℕ). replicate n 32) (part-long out at (c .args .count) (c .pre)) in
     let long = length-replicate (c .args .count) 32 in
     record {
       position = sym (ap (λ (n : ℕ). at + n) long);

@@ -15,4 +15,8 @@ returns-then-self-eq128 g c =
 pub returns : need.returns
 returns g c =
     let h = high (c .args .self .now .entries) (c .args .self .now .count) (omega arith) in
-    record { room = lt-true _ _ (omega arith); after = pushed (c .args .self .now .entries) (c .args .self .now .count) (c .args .entry) (omega arith) }
+    record {
+      room = lt-true _ _ (omega arith);
+      after
+          = pushed (c .args .self .now .entries) (c .args .self .now .count) (c .args .entry) (omega arith);
+    }

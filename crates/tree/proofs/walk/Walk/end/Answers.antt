@@ -7,18 +7,17 @@ use Rattle.tree.proofs.walk.Walk.end.Needs as need
 use Rattle.tree.proofs.walk.Walk.end.Needs.{then-self·by·then-self, then-self·by·else-self·then-self-len}
 
 pub returns-then-self : need.returns-then-self
-returns-then-self g c = (
-  refl,
-  λ rules terminals.
-      elim (c .then-self .came) [
-        | then-self·by·then-self w ↦ some-rule (c .args .self .now .nodes .now) (c .args .self .now .node) (w .if-self .taken) rules
-        | then-self·by·else-self·then-self-len w ↦ some-left (listed (c .args .self .now .terminals .now)) (c .args .self .now .piece) (omega arith) terminals
-      ],
-)
+returns-then-self g c =
+    let w = c .args .self .now in (
+      refl,
+      λ rules terminals.
+          elim (c .then-self .came) [
+            | then-self·by·then-self v ↦ some-rule (w .nodes .now) (w .node) (v .if-self .taken) rules
+            | then-self·by·else-self·then-self-len v ↦ some-left (listed (w .terminals .now)) (w .piece) (omega arith) terminals
+          ],
+    )
 
 pub returns : need.returns
-returns g c = (
-  refl,
-  no-rules (c .args .self .now .nodes .now) (c .args .self .now .node) (c .if-self .left),
-  drop-all (c .args .self .now .piece) (listed (c .args .self .now .terminals .now)) (omega arith),
-)
+returns g c =
+    let w = c .args .self .now in
+    (no-rules (w .nodes .now) (w .node) (c .if-self .left), drop-all (w .piece) (listed (w .terminals .now)) (omega arith))

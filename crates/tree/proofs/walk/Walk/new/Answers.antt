@@ -12,7 +12,14 @@ returns-then-nodes-eq0 g c = record { over = tt; top = (refl, no-nodes _ _ (c .a
 
 pub returns-in-rest : need.returns-in-rest
 returns-in-rest g c =
-    record { over = tt; top = (refl, no-top (g .G·Grammar .model (c .args .grammar .now)) _ (c .args .nodes .now) _ (omega arith) (c .in-rest .ensures tt)) }
+    record {
+      over = tt;
+      top = (
+        refl,
+        no-top (g .G·Grammar .model (c .args .grammar .now)) _ (c .args .nodes .now) _ (omega arith)
+            (c .in-rest .ensures tt),
+      );
+    }
 
 pub returns : need.returns
 returns g c =
