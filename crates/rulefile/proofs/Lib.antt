@@ -1,0 +1,15 @@
+pub mod Added
+pub mod Begun
+pub mod Bounded
+pub mod Built
+pub mod Cutting
+pub mod Distinct
+pub mod Finished
+pub mod FirstWith
+pub mod Gathering
+pub mod Gets
+pub mod Growing
+pub mod Lawfulness
+pub mod Seeking
+pub mod Symbols
+pub mod Under

@@ -1,0 +1,14 @@
+pub mod Bounds
+pub mod Built
+pub mod Denoted
+pub mod Forms
+pub mod FormViews
+pub mod Loaded
+pub mod Parts
+pub mod Places
+pub mod Reading
+pub mod Rows
+pub mod Spelled
+pub mod Tables
+pub mod Told
+pub mod Views
