@@ -28,13 +28,13 @@ const NO_PIECE: PieceRecord = PieceRecord {
 };
 
 // The program prints just that for the text.
-pub fn prints(rt: &LibcRuntime, text: &[u8], expected: &[u8]) -> Result<(), Fail> {
+pub(crate) fn prints(rt: &LibcRuntime, text: &[u8], expected: &[u8]) -> Result<(), Fail> {
     let output = print_reindented(rt.alloc(), text)?;
     check(output.bytes.as_slice() == expected)
 }
 
 // The nodes of the text's first reading have these rules.
-pub fn has_rules(text: &[u8], rules: &[u8]) -> Result<(), Fail> {
+pub(crate) fn has_rules(text: &[u8], rules: &[u8]) -> Result<(), Fail> {
     let mut cells = [0; 1024];
     let mut nodes = [BLANK; 256];
     match rules_of(text, &mut cells, &mut nodes) {
@@ -55,7 +55,7 @@ fn rules_of(text: &[u8], cells: &mut [u64], nodes: &mut [Node]) -> Result<usize,
 }
 
 // The text, read and laid out by that policy, is written like that.
-pub fn lays<P: Policy>(policy: &P, text: &[u8], expected: &[u8]) -> Result<(), Fail> {
+pub(crate) fn lays<P: Policy>(policy: &P, text: &[u8], expected: &[u8]) -> Result<(), Fail> {
     let mut out = [0; 2048];
     match laid(policy, text, &mut out) {
         Ok(length) => {
@@ -67,7 +67,7 @@ pub fn lays<P: Policy>(policy: &P, text: &[u8], expected: &[u8]) -> Result<(), F
 }
 
 // The text, read and laid out by that policy, is too deep at that item of that rule.
-pub fn too_deep<P: Policy>(policy: &P, text: &[u8], at: (u8, u8)) -> Result<(), Fail> {
+pub(crate) fn too_deep<P: Policy>(policy: &P, text: &[u8], at: (u8, u8)) -> Result<(), Fail> {
     let mut out = [0; 2048];
     match laid(policy, text, &mut out) {
         Err(Fault::TooDeep { rule, item }) => check(rule == at.0 && item == at.1),

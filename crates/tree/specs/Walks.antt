@@ -1,12 +1,14 @@
 -- A walk over the items of a tree, and what is still to come.
---   waiting-slots              items of the nodes that wait
---   pending                    all items to come, where the node that the walk came to last has that column
+--   rules-of, items-of   the rule numbers of nodes; the items that are to come, without their columns
+--   slot-of              the item that a step has come to
+--   waiting-slots        the items of the nodes that wait
+--   pending              all items to come, where the node that the walk came to last has that column
 --   rules-left, terminals-left   the rule numbers of the nodes to come, the terminals of the pieces to come
---   Ahead                      the rest of the rule numbers gives one tree for each item to come over just the rest of the terminals
---   Takes                      an item covers the piece or the node that comes next
---   Begun                      a walk has come to the top of a tree with these rule numbers and terminals, and no further
---   Came                       the walk has come to an item
---   Nexts                      the answer to what comes next: an item, the end, or that there is no such tree
+--   Ahead                the rest of the rule numbers gives one tree for each item to come, over just the rest of the terminals
+--   Same, Over           a walk over the same tree under the same grammar; under that grammar over those nodes and terminals
+--   Takes                an item covers the piece or the node that comes next
+--   Begun, Begins        a walk has come to the top of a tree and no further; that, or there is no such tree
+--   Came, Ended, Nexts   the walk has come to an item; to the end; one of these, or there is no such tree
 use mathlib.Core.Path.{_≡_}
 use mathlib.Core.List.{List, [], _∷_, _++_, map}
 use Prim.Native.Nat.{ℕ, _+_}

@@ -6,7 +6,7 @@ use crate::terminals::Terminals;
 use grammar::grammar::Grammar;
 use grammar::rule::Item;
 
-// One item of a tree: the number and the column of its node's rule, its number in the rule, the item,
+// One item of a tree: the number of its node's rule, its node's column, its own number in the rule, the item,
 // and the number of the first piece that it covers.
 #[derive(Clone, Copy)]
 pub struct Step {
