@@ -39,46 +39,46 @@ pub enum Place {
 // Why a call declines. A case holds what the fault points at, and nothing else.
 #[derive(Clone, Copy)]
 pub enum Fault {
-    // A rule file exceeds 4,096 bytes or has a byte other than 10 and 32 to 126.
+    // A rule file is too long, or holds a byte that rule files do not have.
     FileBytes,
-    // Its first line is not the seven names.
+    // The first line of a rule file does not name its seven columns.
     FileNames,
-    // A line, the one given, is not seven values with single spaces.
+    // That line of a rule file does not split into seven values.
     ValueCount(u16),
-    // A value of that line lacks the form of its name.
+    // A value on that line is written as its column does not allow.
     ValueForm(u16),
-    // In that line the first item is missing, an item follows a missing one, or one of symbol and relation is missing.
+    // The items on that line have a hole: none comes first, one comes behind a hole, or one is only half there.
     ItemGap(u16),
-    // A count of the grammar is outside its limits.
+    // The rule file has too few or too many nonterminals, terminals or rules.
     GrammarSize,
-    // The rule of that line has one item, a nonterminal that is not above the left one.
+    // The rule on that line leads from a nonterminal to a single one that is not further down the list.
     UnitRule(u16),
-    // A step width is outside 1 to 8.
+    // No step policy has that width.
     StepWidth,
-    // The galley to be changed or laid is already laid.
+    // A laid galley cannot be laid again or changed.
     AlreadyLaid,
-    // A node number is past the end, or the galley to be laid or grafted is empty.
+    // The galley has no such node, or there is no tree to lay or to graft.
     NoNode,
-    // A symbol is not one of the grammar, a grafted top symbol is another, or the held tree breaks a rule.
+    // The grammar has no such symbol, the symbol to be grafted is not the one that is replaced, or the tree is none of the grammar's.
     GrammarMismatch,
-    // A text exceeds 12,288 bytes.
+    // The text has more bytes than a text may have.
     TextTooLong,
-    // The byte there begins no piece, or opens a quote that is not closed.
+    // Nothing that a text may contain begins there, or the quote that begins there does not end.
     NoPiece(Position),
-    // The piece there has more than 32 bytes or begins past column 63.
+    // The piece there is too long, or begins too far to the right.
     PieceOutOfBounds(Position),
-    // There is no piece, or the result would have more than 128.
+    // A script without pieces, or with too many of them.
     PieceCount,
-    // The piece there has no terminal.
+    // The grammar does not know the piece there.
     NoTerminal(Position),
-    // That memory is too short.
+    // The lent memory of that kind does not suffice.
     ShortMemory(Memory),
-    // No reading exists; the place is that of the last piece that a reading of the pieces before it reaches.
+    // The text has no reading. The place is where a reading of a beginning of the text ends, or the first piece if none has one.
     NoReading(Position),
-    // The policy's column for that item of that rule is above 63.
+    // The policy sets that item of that rule too far to the right.
     TooDeep { rule: u8, item: u8 },
-    // The galley is not laid, or the slip has another number.
+    // The slip does not belong to this galley, or no text is kept for it.
     WrongSlip,
-    // The start is past the buffer's end, or the text does not fit behind it.
+    // The buffer has too little room from the start on.
     NoRoom,
 }

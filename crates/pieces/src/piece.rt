@@ -3,11 +3,11 @@ use faults::fault::Position;
 // What a piece is.
 #[derive(Clone, Copy)]
 pub enum Class {
-    // a letter, then letters, digits and underscores, as many as follow
+    // begins with a letter and takes in all letters, digits and underscores behind it
     Name,
-    // digits, as many as follow
+    // takes in all digits in a row
     Number,
-    // from a byte 34 to the next one on its line, with only bytes 32 to 126 between
+    // printable bytes between two quote bytes, which belong to it
     Quote,
     // one byte of : ; = ( ) { } , + - * / < >
     Sign,
