@@ -2,7 +2,7 @@
 use Rattle.std.proofs.Common.{◌≡◌, ℕ, suc, ◌+◌, ◌-◌, ◌<◌, ◌≤◌, List, [], ◌∷◌, ◌++◌, map, length, sym, refl, ap, ◌∙◌, subst, append_assoc, arith}
 use Rattle.std.specs.List.{AllByRecursion as All}
 use Rattle.std.proofs.ByRecursion.{All-append}
-use Rattle.std.proofs.lemmas.List.{append-nil, map_append}
+use Rattle.std.proofs.lemmas.List.{append-nil, map-append}
 use Rattle.columns.specs.Mask.{Near}
 use Rattle.grammar.specs.declared.rule.Symbol.{Symbol}
 use Rattle.grammar.specs.declared.rule.Symbol.TheVariants.{Terminal, Nonterminal}
@@ -123,7 +123,7 @@ module _ (G : Model) (ts : List Token) where
         Children.tree t.0 cs,
         (b, k, d, e, s, l, t.1, f),
         subst (λ (y : List Node). (map (λ n. n.rule) (y ++ qs) ≡ preorder t.0 ++ preorders cs) × All (Tells G) (y ++ qs)) (sym z) (
-          map_append (λ (n : Node). n.rule) q.0 qs ∙ ap (λ (y : List ℕ). y ++ map (λ (n : Node). n.rule) qs) t.2.numbers
+          map-append (λ (n : Node). n.rule) q.0 qs ∙ ap (λ (y : List ℕ). y ++ map (λ (n : Node). n.rule) qs) t.2.numbers
               ∙ ap (λ (y : List ℕ). preorder t.0 ++ y) u.0,
           All-append (Tells G) q.0 qs t.2.told u.1,
         ),

@@ -8,8 +8,8 @@ use text::token::Token;
 
 // Writes the whole chart.
 pub(crate) fn fill<'a, G: Grammar>(grammar: &'a G, tokens: &'a [Token], cells: &mut [u64])
-    requires board { Board (model grammar.now) tokens.now cells.old }
-    ensures after { Done (model grammar.now) tokens.now cells.new
+    requires board { Board (G.model grammar.now) tokens.now cells.old }
+    ensures after { Done (G.model grammar.now) tokens.now cells.new
         0 (length tokens.now) }
 {
     for last in 0..tokens.len() {
@@ -19,10 +19,10 @@ pub(crate) fn fill<'a, G: Grammar>(grammar: &'a G, tokens: &'a [Token], cells: &
 
 // Writes the numbers of all stretches that end at j, the shortest first.
 fn fill_end<'a, G: Grammar>(grammar: &'a G, tokens: &'a [Token], cells: &mut [u64], j: usize)
-    requires board { Board (model grammar.now) tokens.now cells.old }
+    requires board { Board (G.model grammar.now) tokens.now cells.old }
     requires end { j ≤ length tokens.now }
-    requires before { Done (model grammar.now) tokens.now cells.old j j }
-    ensures after { Done (model grammar.now) tokens.now cells.new 0 j }
+    requires before { Done (G.model grammar.now) tokens.now cells.old j j }
+    ensures after { Done (G.model grammar.now) tokens.now cells.new 0 j }
 {
     for i in (0..j).rev() {
         fill_stretch(grammar, tokens, cells, i, j);
@@ -38,10 +38,10 @@ fn fill_stretch<'a, G: Grammar>(
     i: usize,
     j: usize,
 )
-    requires board { Board (model grammar.now) tokens.now cells.old }
+    requires board { Board (G.model grammar.now) tokens.now cells.old }
     requires within { Within tokens.now i j }
-    requires before { Done (model grammar.now) tokens.now cells.old (i + 1) j }
-    ensures after { Done (model grammar.now) tokens.now cells.new i j }
+    requires before { Done (G.model grammar.now) tokens.now cells.old (i + 1) j }
+    ensures after { Done (G.model grammar.now) tokens.now cells.new i j }
 {
     let n = grammar.nonterminals();
     for a in (0..n).rev() {

@@ -1,5 +1,7 @@
 // The chart of column sets over the tokens of a text, and the first reading that it gives.
 
+#![tactic(auto)]
+
 mod chart;
 mod cut;
 mod fill;

@@ -12,11 +12,11 @@ use grammar::rule::Symbol;
 impl<G: Grammar> Chart<'_, '_, G> {
     // The columns at which an item of that symbol can cover the tokens from i up to j.
     pub(crate) fn part(&self, symbol: Symbol, i: usize, j: usize) -> u64
-        requires ready { Ready model self.now }
+        requires ready { Ready G.model self.now }
         requires within { Within self.now.tokens.now i j }
-        requires below { Below (model self.now.grammar.now) symbol }
-        requires known { inside model self.now Known symbol i j }
-        ensures { Means result (under model self.now Part symbol i j) }
+        requires below { Below (G.model self.now.grammar.now) symbol }
+        requires known { inside G.model self.now Known symbol i j }
+        ensures { Means result (under G.model self.now Part symbol i j) }
     {
         match symbol {
             Symbol::Terminal(t) => {

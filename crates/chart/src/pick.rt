@@ -20,12 +20,12 @@ pub(crate) struct Choice {
 impl<G: Grammar> Chart<'_, '_, G> {
     // The lowest rule of nonterminal a that can be completed over the tokens from i up to j at that column.
     pub(crate) fn lowest_rule(&self, a: u8, column: u8, i: usize, j: usize) -> Choice
-        requires ready { Ready model self.now }
-        requires filled { Filled model self.now }
+        requires ready { Ready G.model self.now }
+        requires filled { Filled G.model self.now }
         requires within { Within self.now.tokens.now i j }
-        requires some { under model self.now Derives a i j column }
-        ensures lowest { under model self.now LowestRule a i j column result.number }
-        ensures items { under model self.now ItemsOf a result.number (Is result.items) }
+        requires some { under G.model self.now Derives a i j column }
+        ensures lowest { under G.model self.now LowestRule a i j column result.number }
+        ensures items { under G.model self.now ItemsOf a result.number (Is result.items) }
     {
         for number in 0..self.grammar.rules() {
             if let Some(items) = self.items_of(a, number) {
@@ -39,14 +39,14 @@ impl<G: Grammar> Chart<'_, '_, G> {
 
     // The end of the shortest first of two items.
     pub(crate) fn cut_two(&self, x: Item, y: Item, column: u8, i: usize, j: usize) -> usize
-        requires ready { Ready model self.now }
-        requires filled { Filled model self.now }
+        requires ready { Ready G.model self.now }
+        requires filled { Filled G.model self.now }
         requires within { Within self.now.tokens.now i j }
-        requires first { Below (model self.now.grammar.now) x.symbol }
-        requires second { Below (model self.now.grammar.now) y.symbol }
-        requires some { under model self.now Row (x ∷ y ∷ []) i j column }
+        requires first { Below (G.model self.now.grammar.now) x.symbol }
+        requires second { Below (G.model self.now.grammar.now) y.symbol }
+        requires some { under G.model self.now Row (x ∷ y ∷ []) i j column }
         ensures within { (i < result) × (result < j) }
-        ensures first { under model self.now Shortest x (y ∷ []) i j column result }
+        ensures first { under G.model self.now Shortest x (y ∷ []) i j column result }
     {
         for cut in first_begin(y.symbol, i, j)..past_end(x.symbol, i, j) {
             let front = self.row_one(x, i, cut);
@@ -68,15 +68,15 @@ impl<G: Grammar> Chart<'_, '_, G> {
         i: usize,
         j: usize,
     ) -> usize
-        requires ready { Ready model self.now }
-        requires filled { Filled model self.now }
+        requires ready { Ready G.model self.now }
+        requires filled { Filled G.model self.now }
         requires within { Within self.now.tokens.now i j }
-        requires first { Below (model self.now.grammar.now) x.symbol }
-        requires second { Below (model self.now.grammar.now) y.symbol }
-        requires third { Below (model self.now.grammar.now) z.symbol }
-        requires some { under model self.now Row (x ∷ y ∷ z ∷ []) i j column }
+        requires first { Below (G.model self.now.grammar.now) x.symbol }
+        requires second { Below (G.model self.now.grammar.now) y.symbol }
+        requires third { Below (G.model self.now.grammar.now) z.symbol }
+        requires some { under G.model self.now Row (x ∷ y ∷ z ∷ []) i j column }
         ensures within { (i < result) × (result < j) }
-        ensures first { under model self.now Shortest x (y ∷ z ∷ []) i j column result }
+        ensures first { under G.model self.now Shortest x (y ∷ z ∷ []) i j column result }
     {
         for cut in i + 1..past_end(x.symbol, i, j) {
             let front = self.row_one(x, i, cut);

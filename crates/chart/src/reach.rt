@@ -13,11 +13,11 @@ use grammar::rule::Symbol;
 impl<G: Grammar> Chart<'_, '_, G> {
     // The last token that is the first one, or that a reading of the tokens before it reaches.
     pub(crate) fn reach(&self, symbol: u8) -> usize
-        requires ready { Ready model self.now }
-        requires filled { Filled model self.now }
+        requires ready { Ready G.model self.now }
+        requires filled { Filled G.model self.now }
         requires some { 0 < length self.now.tokens.now }
-        requires low { symbol < (model self.now.grammar.now).nonterminals }
-        ensures { under model self.now Reach symbol (length self.now.tokens.now) result }
+        requires low { symbol < (G.model self.now.grammar.now).nonterminals }
+        ensures { under G.model self.now Reach symbol (length self.now.tokens.now) result }
     {
         let mut last = 0;
         for end in 1..self.tokens.len() {

@@ -26,7 +26,7 @@ pub fn first_reading<G: Grammar>(
     cells: &mut [u64],
     nodes: &mut [Node],
 ) -> Result<usize, Fault>
-    ensures answer { Answered (model g.now) (listed tokens.now) symbol (length cells.old)
+    ensures answer { Answered (G.model g.now) (listed tokens.now) symbol (length cells.old)
         nodes.old nodes.new result }
     ensures reads { FirstReads }
     ensures one { FirstIsOne }
@@ -77,11 +77,11 @@ fn read_tokens<'a, G: Grammar>(
     cells: &mut [u64],
     nodes: &mut [Node],
 ) -> Result<usize, Fault>
-    requires board { Board (model grammar.now) tokens.now cells.old }
+    requires board { Board (G.model grammar.now) tokens.now cells.old }
     requires some { 0 < length tokens.now }
-    requires low { symbol < (model grammar.now).nonterminals }
-    requires room { nodes_of (model grammar.now).nonterminals (length tokens.now) ≤ length nodes.old }
-    ensures { Read (model grammar.now) tokens.now symbol nodes.old nodes.new result }
+    requires low { symbol < (G.model grammar.now).nonterminals }
+    requires room { nodes_of (G.model grammar.now).nonterminals (length tokens.now) ≤ length nodes.old }
+    ensures { Read (G.model grammar.now) tokens.now symbol nodes.old nodes.new result }
 {
     fill(grammar, tokens, cells);
     let chart = Chart {

@@ -34,14 +34,14 @@ impl<G: Grammar> Chart<'_, '_, G> {
     // Lets an item of a node at that column wait, if a nonterminal:
     // at the least column that meets its relation and lets its stretch be completed.
     fn wait(&self, x: Item, column: u8, i: usize, j: usize, stack: &mut Stack<Waiting>)
-        requires ready { Ready model self.now }
-        requires filled { Filled model self.now }
+        requires ready { Ready G.model self.now }
+        requires filled { Filled G.model self.now }
         requires within { Within self.now.tokens.now i j }
-        requires below { Below (model self.now.grammar.now) x.symbol }
-        requires some { Near x.relation (under model self.now Part x.symbol i j) column }
+        requires below { Below (G.model self.now.grammar.now) x.symbol }
+        requires some { Near x.relation (under G.model self.now Part x.symbol i j) column }
         requires free { length (waiting stack.old) < 128 }
         ensures { Adds (waiting stack.old) (waiting stack.new)
-            (under model self.now Awaits x x.symbol column i j) }
+            (under G.model self.now Awaits x x.symbol column i j) }
     {
         if let Symbol::Nonterminal(symbol) = x.symbol {
             let Some(column) = least(x.relation, column, self.part(x.symbol, i, j)) else {
@@ -59,14 +59,14 @@ impl<G: Grammar> Chart<'_, '_, G> {
     // Lets the items of a node at that column wait, the first on top.
     // They divide the tokens from i up to j, the first as short as it can be, then the second.
     fn divide(&self, items: Items, column: u8, i: usize, j: usize, stack: &mut Stack<Waiting>)
-        requires ready { Ready model self.now }
-        requires filled { Filled model self.now }
+        requires ready { Ready G.model self.now }
+        requires filled { Filled G.model self.now }
         requires within { Within self.now.tokens.now i j }
-        requires below { All (λ x. Below (model self.now.grammar.now) x.symbol) (listed items) }
-        requires some { under model self.now Row (listed items) i j column }
+        requires below { All (λ x. Below (G.model self.now.grammar.now) x.symbol) (listed items) }
+        requires some { under G.model self.now Row (listed items) i j column }
         requires free { length (waiting stack.old) + (j - i) ≤ 128 }
         ensures { Adds (waiting stack.old) (waiting stack.new)
-            (under model self.now Divided (listed items) column i j) }
+            (under G.model self.now Divided (listed items) column i j) }
     {
         match items {
             Items::One(x) => self.wait(x, column, i, j, stack),
@@ -87,12 +87,12 @@ impl<G: Grammar> Chart<'_, '_, G> {
 
     // The node that waits. In its place its items then wait.
     fn enter(&self, next: Waiting, stack: &mut Stack<Waiting>) -> Node
-        requires ready { Ready model self.now }
-        requires filled { Filled model self.now }
-        requires due { under model self.now Due next }
+        requires ready { Ready G.model self.now }
+        requires filled { Filled G.model self.now }
+        requires due { under G.model self.now Due next }
         requires free { length (waiting stack.old) + (next.to - next.from) ≤ 128 }
         ensures { Adds (waiting stack.old) (waiting stack.new)
-            (under model self.now Entered next result) }
+            (under G.model self.now Entered next result) }
     {
         let (i, j) = (next.from as usize, next.to as usize);
         let Choice { number, items } = self.lowest_rule(next.symbol, next.column, i, j);
@@ -106,12 +106,12 @@ impl<G: Grammar> Chart<'_, '_, G> {
 
     // Writes the first tree with that nonterminal and column on top over all tokens, and answers how many nodes it has.
     pub(crate) fn walk(&self, symbol: u8, column: u8, nodes: &mut [Node]) -> usize
-        requires ready { Ready model self.now }
-        requires filled { Filled model self.now }
-        requires due { under model self.now Due (whole self.now.tokens.now symbol column) }
-        requires room { nodes_of (model self.now.grammar.now).nonterminals (length self.now.tokens.now)
+        requires ready { Ready G.model self.now }
+        requires filled { Filled G.model self.now }
+        requires due { under G.model self.now Due (whole self.now.tokens.now symbol column) }
+        requires room { nodes_of (G.model self.now.grammar.now).nonterminals (length self.now.tokens.now)
             ≤ length nodes.old }
-        ensures { under model self.now Wrote (whole self.now.tokens.now symbol column)
+        ensures { under G.model self.now Wrote (whole self.now.tokens.now symbol column)
             nodes.old nodes.new result }
     {
         let top = Waiting {

@@ -1,3 +1,5 @@
+#![tactic(auto)]
+
 ghost use Rattle.fitting.specs.Answers.{AnswerReads, AnswerExact, AnswerBreaks};
 ghost use Rattle.fitting.specs.Laws.{LaidFits, LayoutReads, OnlyDeep, MinimalExact, LinesBreak};
 

@@ -1,4 +1,6 @@
 // Re-indenting scripts of the block language: from text to text, or to the fault line.
 
+#![tactic(auto)]
+
 pub mod output;
 pub mod reindent;

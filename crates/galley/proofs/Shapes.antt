@@ -1,7 +1,7 @@
 -- Node records that a grammar tells of a tree have the shapes of that tree.
 use Rattle.std.proofs.Common.{◌≡◌, ℕ, suc, ◌+◌, true, false, List, [], ◌∷◌, ◌++◌, map, length, Some, Option, sym, refl, ap, ◌∙◌, subst, arith}
 use Rattle.std.specs.List.{slice_get, AllByRecursion as All}
-use Rattle.std.proofs.lemmas.List.{append-nil, length-map, map_append}
+use Rattle.std.proofs.lemmas.List.{append-nil, length-map, map-append}
 use Rattle.grammar.specs.declared.rule.Child.{Child}
 use Rattle.grammar.specs.declared.rule.Child.TheVariants.{Piece, Node as Below}
 use Rattle.grammar.specs.declared.rule.Symbol.{Symbol}
@@ -55,7 +55,7 @@ module _ (G : Model) where
       = ap children t.shape ∙ covered-shape t.rule.items ∙ ap (λ (q : Rule). covered (listed q.items)) same in
       let h = forest_shaped f ns rest told in
       let m : covered (listed rule.items ++ xs) ≡ under n ++ covered xs
-      = map_append (λ (y : Item). child_of y.symbol) (listed rule.items) xs ∙ ap (λ (cs : List Child). cs ++ covered xs) (sym shape) in
+      = map-append (λ (y : Item). child_of y.symbol) (listed rule.items) xs ∙ ap (λ (cs : List Child). cs ++ covered xs) (sym shape) in
       let c : Below ≡ child_of x.symbol = sym (ap child_of s) in
       subst (λ (k : Child). Shaped (k ∷ covered xs) (n ∷ ns) (length ts)) c
       (Shaped.node (subst (λ (cs : List Child). Shaped cs ns (length ts)) m h))

@@ -1,10 +1,10 @@
 -- Pieces with their places.
-use Rattle.std.proofs.Common.{◌≡◌, ℕ, zero, suc, ◌+◌, ◌<◌, ◌≤◌, min, List, [], ◌∷◌, ◌++◌, length, get_or, take, drop, set, sym, refl, ap, ◌∙◌, subst, add-one, arith}
+use Rattle.std.proofs.Common.{◌≡◌, ℕ, zero, suc, ◌+◌, ◌<◌, ◌≤◌, min, max, List, [], ◌∷◌, ◌++◌, length, get_or, take, drop, set, sym, refl, ap, ◌∙◌, subst, add-one, arith}
 use Rattle.std.proofs.lemmas.List.{take_at, length-take-le, length-append, length-drop}
 use Rattle.tree.specs.declared.piece.PieceRecord.{PieceRecord}
+use Rattle.tree.specs.Pieces.{total, longest}
 use Rattle.layout.specs.declared.placement.Placement.{Placement}
-use Rattle.layout.specs.Standing.{stand, standing}
-use Rattle.layout.proofs.Standing.{length-standing}
+use Rattle.galley.specs.Lays.{stand, standing}
 
 pub standing-none : (ps : List PieceRecord) → standing ps [] ≡ ps
 standing-none [] = refl
@@ -30,6 +30,22 @@ standing-all (p ∷ ps) [] zero h = refl
 standing-all (p ∷ ps) [] (suc i) h = refl
 standing-all (p ∷ ps) (q ∷ qs) zero h = absurd (omega arith)
 standing-all (p ∷ ps) (q ∷ qs) (suc i) h = ap (λ (xs : List PieceRecord). stand p q ∷ xs) (standing-all ps qs i (omega arith))
+
+pub length-standing : (ps : List PieceRecord) (qs : List Placement) → length (standing ps qs) ≡ length ps
+length-standing [] qs = refl
+length-standing (p ∷ ps) [] = refl
+length-standing (p ∷ ps) (q ∷ qs) = ap suc (length-standing ps qs)
+
+-- their lengths are as they were
+pub total-standing : (ps : List PieceRecord) (qs : List Placement) → total (standing ps qs) ≡ total ps
+total-standing [] qs = refl
+total-standing (p ∷ ps) [] = refl
+total-standing (p ∷ ps) (q ∷ qs) = ap (λ (n : ℕ). p.length + n) (total-standing ps qs)
+
+pub longest-standing : (ps : List PieceRecord) (qs : List Placement) → longest (standing ps qs) ≡ longest ps
+longest-standing [] qs = refl
+longest-standing (p ∷ ps) [] = refl
+longest-standing (p ∷ ps) (q ∷ qs) = ap (λ (n : ℕ). max p.length n) (longest-standing ps qs)
 
 -- the used part of a memory, written anew with places; k is another name for its length n
 module _ (m new post : List PieceRecord) (n k : ℕ) (qs : List Placement) (same : k ≡ n) (fits : n ≤ length m)

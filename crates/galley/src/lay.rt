@@ -1,7 +1,6 @@
 ghost use Rattle.std.specs.Prelude.{◌≡◌};
 ghost use Rattle.tree.specs.Pieces.{total, longest};
-ghost use Rattle.layout.specs.Standing.{standing};
-ghost use Rattle.galley.specs.Lays.{LaysBy};
+ghost use Rattle.galley.specs.Lays.{standing, LaysBy};
 ghost use Rattle.galley.specs.Stores.{front, room, Fits};
 
 use crate::galley::Galley;

@@ -1,5 +1,7 @@
 // Galleys, which hold scripts as trees: read, lift, graft, lay, write and release, and what they tell.
 
+#![tactic(auto)]
+
 pub mod contents;
 mod exchange;
 pub mod galley;

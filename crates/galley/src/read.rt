@@ -24,7 +24,7 @@ impl Store<'_, Node> {
         tokens: &Tokens,
         cells: &mut [u64],
     ) -> Result<(), Fault>
-        ensures { Reads (model g.now) symbol (length cells.old) (listed tokens.now) self.entry.now result self.new }
+        ensures { Reads (G.model g.now) symbol (length cells.old) (listed tokens.now) self.entry.now result self.new }
     {
         self.used = first_reading(g, symbol, tokens, cells, self.memory)?;
         Ok(())
@@ -43,7 +43,7 @@ impl Held<'_> {
     ) -> Result<(), Fault>
         requires own { Sound self.old }
         requires inside { Inside text.now (listed tokens.now) }
-        ensures took { TakesOver (model g.now) symbol (length cells.old) text.now (listed tokens.now) self.old result self.new }
+        ensures took { TakesOver (G.model g.now) symbol (length cells.old) text.now (listed tokens.now) self.old result self.new }
         ensures sound { Sound self.new }
     {
         let list = tokens.as_slice();
@@ -71,7 +71,7 @@ impl Galley<'_> {
         chart: &mut [u64],
     ) -> Result<(), Fault>
         ensures zero { chart.new ≡ replicate (length chart.old) 0 }
-        ensures answer { ReadsIn (model g.now) symbol text.now (length chart.old) self.entry.now result self.new }
+        ensures answer { ReadsIn (G.model g.now) symbol text.now (length chart.old) self.entry.now result self.new }
     {
         let memory = ChartMemory { cells: chart };
         if self.laid.is_some() {

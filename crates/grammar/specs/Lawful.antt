@@ -2,13 +2,16 @@
 --   Below        a symbol's number is below its count
 --   Higher       a symbol, if a nonterminal, has a higher number than the left one
 --   Ordered      a rule's only item, if a nonterminal, has a higher number than the left one
+--   every        all bytes pass a test
+--   one_name     bytes that form one name: a letter, then what a name runs on through
+--   one_sign     bytes that form one sign
 --   WellFormed   a terminal is the class name, number or quote, or a word: one name or one sign of 1 to 12 bytes
 --   Proper       a rule has a left symbol and items of the grammar, and is ordered
 --   Lawful       limits on the counts, no class and no spelling twice, every terminal well formed and every rule proper
-use Rattle.std.specs.Prelude.{◌≡◌, ℕ, ◌<◌, ◌≤◌, true, ◌||◌, length, Some}
+use Rattle.std.specs.Prelude.{◌≡◌, ℕ, ◌<◌, ◌≤◌, Bool, true, false, ◌&&◌, ◌||◌, List, [], ◌∷◌, length, Some}
 use Rattle.std.specs.List.{slice_get, AllByRecursion as All}
 use Rattle.pieces.specs.declared.piece.Class.TheVariants.{Name, Number, Quote, Sign}
-use Rattle.pieces.specs.Alone.{one_name, one_sign}
+use Rattle.pieces.specs.Kinds.{letter, sign, goes_on}
 use Rattle.grammar.specs.declared.rule.Symbol.{Symbol}
 use Rattle.grammar.specs.declared.rule.Symbol.TheVariants as symbol
 use Rattle.grammar.specs.declared.rule.Items.{Items}
@@ -28,6 +31,19 @@ abbrev pub Ordered : ℕ → Items → Type 0
 Ordered left (One x) = Higher left x.symbol
 Ordered left (Two x y) = Unit {0}
 Ordered left (Three x y z) = Unit {0}
+
+abbrev pub every : (ℕ → Bool) → List ℕ → Bool
+every test [] = true
+every test (b ∷ bs) = test b && every test bs
+
+abbrev pub one_name : List ℕ → Bool
+one_name [] = false
+one_name (b ∷ bs) = letter b && every goes_on bs
+
+abbrev pub one_sign : List ℕ → Bool
+one_sign [] = false
+one_sign (b ∷ []) = sign b
+one_sign (b ∷ c ∷ bs) = false
 
 abbrev pub WellFormed : Terminal → Type 0
 WellFormed (class Name) = Unit {0}

@@ -4,7 +4,7 @@ use Rattle.std.proofs.Common.{subst, arith, lit≤, rules}
 use Rattle.std.specs.List.{slice_get, AllByRecursion as All}
 use Rattle.grammar.specs.Model.{Terminal, class, word, first_with, spelled, classed}
 use Rattle.grammar.specs.Lawful.{Lawful, Proper, WellFormed}
-use Rattle.grammar.specs.Block.{block, terminals, rules}
+use Rattle.grammar.specs.Block.{block, terminals, rules as lines}
 
 -- what holds of each element at its number
 abbrev Each : {X : Type 0} → (ℕ → X → Type 0) → List X → Type 0
@@ -32,7 +32,7 @@ numbered = (refl, (refl, (refl, (refl, (refl, (refl, (refl, tt)))))))
 well_formed : All WellFormed terminals
 well_formed = search rules
 
-proper : All (Proper block) rules
+proper : All (Proper block) lines
 proper = search rules
 
 pub lawful : Lawful block
@@ -45,5 +45,5 @@ lawful = record {
       let b = each_nth (λ n x. number_of x ≡ Some n) terminals k t numbered q in
       cc;
   spelling = λ k t p. all-nth WellFormed terminals k t well_formed p;
-  proper = λ r rule p. all-nth (Proper block) rules r rule proper p;
+  proper = λ r rule p. all-nth (Proper block) lines r rule proper p;
 }

@@ -10,7 +10,7 @@ use tree::walk::Step;
 
 // The column that an item takes and whether it asks for a break.
 fn answer<P: Policy>(policy: &P, step: &Step, cursor: u8) -> Answer
-    ensures { result ≡ answer_of (answers policy.now) cursor (slot_of step.now) }
+    ensures { result ≡ answer_of (P.answers policy.now) cursor (slot_of step.now) }
 {
     let bound = match step.item.relation {
         Relation::Equal => return Answer {
@@ -33,7 +33,7 @@ fn answer<P: Policy>(policy: &P, step: &Step, cursor: u8) -> Answer
 
 // The same, refused where the column is above 63.
 pub(crate) fn settle<P: Policy>(policy: &P, step: &Step, cursor: u8) -> Result<Answer, Fault>
-    ensures { Settles (answer_of (answers policy.now) cursor (slot_of step.now)) step.now result }
+    ensures { Settles (answer_of (P.answers policy.now) cursor (slot_of step.now)) step.now result }
 {
     let answer = answer(policy, step, cursor);
     if answer.column > 63 {

@@ -17,7 +17,7 @@ pub fn lay_out<G: Grammar, P: Policy>(
     policy: &P,
     contents: Contents,
 ) -> Result<Layout, Fault>
-    ensures { Laid (model grammar.now) (answers policy.now)
+    ensures { Laid (G.model grammar.now) (P.answers policy.now)
         contents.entry.bytes.now contents.entry.pieces.now (rules_of contents.entry.nodes.now) result }
 {
     let terminals = Terminals::of(grammar, &contents)?;

@@ -1,5 +1,7 @@
 // Laying a tree out as text: where each piece stands, and the text itself.
 
+#![tactic(auto)]
+
 mod answer;
 pub mod lay_out;
 mod line;

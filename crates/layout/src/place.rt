@@ -21,7 +21,7 @@ impl Placer {
     // Places what an item covers, and answers the item's column.
     fn put<P: Policy>(&mut self, policy: &P, step: &Step, contents: &Contents) -> Result<u8, Fault>
         requires { Within step.now.item.symbol step.now.piece (length contents.now.pieces.now) }
-        ensures { Putting (answers policy.now) step.now (lengths contents.now.pieces.now)
+        ensures { Putting (P.answers policy.now) step.now (lengths contents.now.pieces.now)
             self.old self.new result }
     {
         let answer = settle(policy, step, self.line.cursor)?;
@@ -41,9 +41,9 @@ pub(crate) fn place<'a, G: Grammar, P: Policy>(
     contents: &'a Contents<'a>,
     terminals: &'a Terminals,
 ) -> Result<Layout, Fault>
-    requires tree { Tree (model grammar.now) (rules_of contents.now.nodes.now) (listed terminals.now) }
+    requires tree { Tree (G.model grammar.now) (rules_of contents.now.nodes.now) (listed terminals.now) }
     requires same { length (listed terminals.now) ≡ length contents.now.pieces.now }
-    ensures { ComesOut (model grammar.now) (answers policy.now)
+    ensures { ComesOut (G.model grammar.now) (P.answers policy.now)
         (rules_of contents.now.nodes.now) (lengths contents.now.pieces.now) (outcome result) }
 {
     let mut walk = Walk::new(grammar, contents.nodes, terminals)?;

@@ -1,5 +1,7 @@
 // The pieces of a text: names, numbers, quotes and signs.
 
+#![tactic(auto)]
+
 pub mod kind;
 pub mod lexeme;
 pub mod next;

@@ -1,6 +1,8 @@
 // Reads a script of the block language on standard input and writes it re-indented by four columns a level,
 // or one line that tells what is wrong and where, with exit status 1.
 
+#![tactic(auto)]
+
 use anyhow::anyhow;
 use formatter::output::print_reindented;
 use std::io::{Read, Write};

@@ -3,7 +3,7 @@ use Rattle.std.proofs.Common.{◌≡◌, ℕ, ◌-◌, true, cond, ◌&&◌, Lis
 use Rattle.std.proofs.lemmas.List.{take_rest}
 use Rattle.std.proofs.lemmas.Bool.{eq-eqb}
 use Rattle.pieces.specs.Kinds.{within, letter, goes_on}
-use Rattle.pieces.specs.Alone.{every, one_name}
+use Rattle.grammar.specs.Lawful.{every, one_name}
 use Rattle.rulefile.specs.Forms.{letter_or_digit, capitalized, word_form, bare_form, symbol_form}
 
 pub name_begun : (s : List ℕ) → letter (get_or s 0 0) ≡ true → every goes_on (take (length s - 1) (drop 1 s)) ≡ one_name s

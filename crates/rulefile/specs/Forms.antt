@@ -16,7 +16,7 @@ use Rattle.columns.specs.declared.relation.Relation.TheVariants.{Equal, Above, A
 use Rattle.pieces.specs.declared.piece.Class.TheVariants.{Name, Number, Quote}
 use Rattle.pieces.specs.Kinds.{within, letter, digit}
 use Rattle.grammar.specs.Model.{class, word}
-use Rattle.pieces.specs.Alone.{every}
+use Rattle.grammar.specs.Lawful.{every}
 use Rattle.rulefile.specs.Parts.{ends_with}
 use Rattle.rulefile.specs.Rows.{Called, nonterminal, terminal, Written}
 use Rattle.rulefile.specs.Spelled.{formed}

@@ -2,7 +2,7 @@
 --   spelled   the bytes of a spelling
 --   formed    bytes that are one name or one sign
 use Rattle.std.specs.Prelude.{ℕ, Bool, ◌||◌, List, take}
-use Rattle.pieces.specs.Alone.{one_name, one_sign}
+use Rattle.grammar.specs.Lawful.{one_name, one_sign}
 use Rattle.rulefile.specs.declared.spelling.Spelling.{Spelling}
 
 abbrev pub spelled : Spelling → List ℕ

@@ -1,5 +1,5 @@
 ghost use Rattle.std.specs.Prelude.{◌≡◌};
-ghost use Rattle.pieces.specs.Alone.{every, one_name, one_sign};
+ghost use Rattle.grammar.specs.Lawful.{every, one_name, one_sign};
 ghost use Rattle.pieces.specs.Kinds.{within, letter, goes_on};
 ghost use Rattle.rulefile.specs.Spelled.{formed};
 ghost use Rattle.rulefile.specs.Forms.{letter_or_digit, capitalized, relation_named, bond, relation_form, item_form};

@@ -1,5 +1,7 @@
 // Rule files: a grammar as text, and the grammar that such a text means.
 
+#![tactic(auto)]
+
 mod adding;
 mod building;
 pub(crate) mod form;

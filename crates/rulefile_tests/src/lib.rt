@@ -1,5 +1,7 @@
 // Corner cases of rule files.
 
+#![tactic(auto)]
+
 #[cfg(test)]
 mod files;
 #[cfg(test)]

@@ -1,5 +1,7 @@
 // Sample scripts with what the engine makes of them.
 
+#![tactic(auto)]
+
 #[cfg(test)]
 mod desk;
 #[cfg(test)]

@@ -69,7 +69,7 @@ impl Notes {
     // Notes one piece more.
     fn add<G: Grammar>(&mut self, g: &G, piece: Piece)
         requires few { self.old.count < 12288 }
-        ensures { Adds (model g.now) self.old (found piece.entry) self.new }
+        ensures { Adds (G.model g.now) self.old (found piece.entry) self.new }
     {
         let terminal = g.terminal(piece.bytes);
         let outside = is_out_of_bounds(&piece);
@@ -106,7 +106,7 @@ impl Notes {
 
 // The tokens of a text under a grammar, or the first reason to refuse it.
 pub fn scan<G: Grammar>(g: &G, text: &[u8]) -> Result<Tokens, Fault>
-    ensures { Exactly (Judged (model g.now) text.now) (told result) }
+    ensures { Exactly (Judged (G.model g.now) text.now) (told result) }
 {
     let mut reader = PieceReader::new(text);
     let mut notes = Notes::new();

@@ -1,7 +1,7 @@
 -- One step of a walk neither makes nor breaks a tree, and brings the end nearer.
 use Rattle.std.proofs.Common.{◌≡◌, ℕ, ◌+◌, ◌<◌, ◌≤◌, List, [], ◌∷◌, ◌++◌, map, length, Some, None, Ok, Option, sym, refl, ap, ◌∙◌, subst, arith}
 use Rattle.std.specs.List.{slice_get}
-use Rattle.std.proofs.lemmas.List.{map_append, append-nil}
+use Rattle.std.proofs.lemmas.List.{map-append, append-nil}
 use Rattle.grammar.specs.declared.rule.Symbol.{Symbol}
 use Rattle.grammar.specs.declared.rule.Symbol.TheVariants.{Terminal, Nonterminal}
 use Rattle.grammar.specs.declared.rule.Item.{Item}
@@ -27,7 +27,7 @@ module _ {X : Type 0} (G : Model) where
       → items_of (pending v d) ≡ listed e.items ++ items_of (waiting_slots v)
   entered-items v e d is =
       ap (λ (o : Option Entered). items_of (entered_slots o d ++ waiting_slots v)) is
-      ∙ map_append (λ (s : Slot). s.item) (slots e.rule d 0 (listed e.items)) (waiting_slots v)
+      ∙ map-append (λ (s : Slot). s.item) (slots e.rule d 0 (listed e.items)) (waiting_slots v)
       ∙ ap (λ (xs : List Item). xs ++ items_of (waiting_slots v)) (items_back e.rule d 0 (listed e.items))
 
   pub other_items : (v : Walk X) (d : ℕ) → v.entered ≡ None → items_of (pending v d) ≡ items_of (waiting_slots v)

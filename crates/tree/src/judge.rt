@@ -14,7 +14,7 @@ pub fn judge<'a, G: Grammar>(
     nodes: &'a [Node],
     terminals: &'a Terminals,
 ) -> Result<(), Fault>
-    ensures { Judges (model grammar.now) (rules_of nodes.now) (listed terminals.now) result }
+    ensures { Judges (G.model grammar.now) (rules_of nodes.now) (listed terminals.now) result }
 {
     let mut walk = Walk::new(grammar, nodes, terminals)?;
     while let Some(_) = walk.next(0)? {}

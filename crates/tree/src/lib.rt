@@ -1,5 +1,7 @@
 // Trees: node records in preorder over the pieces of a text, and the walk over them in the order of the text.
 
+#![tactic(auto)]
+
 pub mod contents;
 pub mod frame;
 pub mod judge;

@@ -10,7 +10,7 @@ use grammar::grammar::Grammar;
 impl Terminals {
     // The terminals that a grammar gives the pieces; refused where a piece has none.
     pub fn of<G: Grammar>(grammar: &G, contents: &Contents) -> Result<Terminals, Fault>
-        ensures { Named (model grammar.now) contents.now.bytes.now
+        ensures { Named (G.model grammar.now) contents.now.bytes.now
             contents.now.pieces.now result }
     {
         let mut list = [0; 128];

@@ -21,7 +21,7 @@ impl<'a, G: Grammar> Walk<'a, G> {
         terminals: &'a Terminals,
     ) -> Result<Walk<'a, G>, Fault>
         ensures over { IfOk result (Over grammar.entry nodes.entry terminals.entry) }
-        ensures top { Begins (model grammar.now) (rules_of nodes.now) (listed terminals.now) result }
+        ensures top { Begins (G.model grammar.now) (rules_of nodes.now) (listed terminals.now) result }
     {
         if nodes.len() == 0 {
             return Err(Fault::GrammarMismatch);
@@ -55,7 +55,7 @@ impl<'a, G: Grammar> Walk<'a, G> {
     // Refused where the rule numbers do not give one tree over just these pieces.
     pub fn next(&mut self, column: u8) -> Result<Option<Step>, Fault>
         ensures same { Same self.old self.new }
-        ensures next { Nexts (model self.old.grammar.now) column self.old self.new result }
+        ensures next { Nexts (G.model self.old.grammar.now) column self.old self.new result }
     {
         let Some(frame) = self.open(column) else {
             return self.end();
@@ -110,7 +110,7 @@ impl<'a, G: Grammar> Walk<'a, G> {
         requires { self.old.entered ≡ None }
         ensures same { Same self.old self.new }
         ensures waiting { self.new.waiting ≡ self.old.waiting }
-        ensures takes { Covers (model self.old.grammar.now) (Terminal terminal)
+        ensures takes { Covers (G.model self.old.grammar.now) (Terminal terminal)
             self.old self.new result }
     {
         let Some(found) = self.terminals.get(self.piece) else {
@@ -127,7 +127,7 @@ impl<'a, G: Grammar> Walk<'a, G> {
     fn take_node(&mut self, left: u8) -> Result<(), Fault>
         ensures same { Same self.old self.new }
         ensures waiting { self.new.waiting ≡ self.old.waiting }
-        ensures takes { Covers (model self.old.grammar.now) (Nonterminal left)
+        ensures takes { Covers (G.model self.old.grammar.now) (Nonterminal left)
             self.old self.new result }
     {
         if self.node >= self.nodes.len() {
@@ -153,7 +153,7 @@ impl<'a, G: Grammar> Walk<'a, G> {
         requires { self.old.entered ≡ None }
         ensures same { Same self.old self.new }
         ensures waiting { self.new.waiting ≡ self.old.waiting }
-        ensures takes { Covers (model self.old.grammar.now) symbol self.old self.new result }
+        ensures takes { Covers (G.model self.old.grammar.now) symbol self.old self.new result }
     {
         match symbol {
             Symbol::Terminal(terminal) => self.take_piece(terminal),

@@ -6,26 +6,26 @@ use Rattle.chart.proofs.Exists.{all_exist}
 use Rattle.chart.proofs.Numbers.{all-numbers, all-numbered, all_trees}
 use Rattle.chart.proofs.read.first_reading.Goals as goal
 
-pub node-need-requires : goal.node-need-requires
-node-need-requires g c =
+pub node_need-requires : goal.node_need-requires
+node_need-requires g c =
     let few : length (listed c.args.tokens.now) ≤ 128 = simp length-take (omega (arith, c.args.tokens.now.few)) in
-    let same = ap length c.as-slice-tokens.ensures in
+    let same = ap length c.as_slice-tokens.ensures in
     let law = (g.met.G.Grammar.lawful c.args.g.now).nonterminals in
     (omega arith, omega arith, omega arith)
 
-pub chart-need-requires : goal.chart-need-requires
-chart-need-requires g c =
+pub chart_need-requires : goal.chart_need-requires
+chart_need-requires g c =
     let few : length (listed c.args.tokens.now) ≤ 128 = simp length-take (omega (arith, c.args.tokens.now.few)) in
-    let same = ap length c.as-slice-tokens.ensures in
+    let same = ap length c.as_slice-tokens.ensures in
     let law = (g.met.G.Grammar.lawful c.args.g.now).nonterminals in
     (omega arith, omega arith, omega arith)
 
-pub read-tokens-requires : goal.read-tokens-requires
-read-tokens-requires g c =
+pub read_tokens-requires : goal.read_tokens-requires
+read_tokens-requires g c =
     let few : length (listed c.args.tokens.now) ≤ 128 = simp length-take (omega (arith, c.args.tokens.now.few)) in
-    let same = ap length c.as-slice-tokens.ensures in
+    let same = ap length c.as_slice-tokens.ensures in
     let n = c.nonterminals-n.ensures in
-    let count = length c.as-slice-tokens.result.now in
+    let count = length c.as_slice-tokens.result.now in
     record {
       board = record { few = omega arith; room = subst (λ (x : ℕ). tri (count + 1) * x ≤ length c.args.cells.now) n (omega arith) };
       some = omega arith;
@@ -55,8 +55,8 @@ returns-then-count-eq0 g c = record {
   trees = all_trees;
 }
 
-pub returns-then-nodes-node-need : goal.returns-then-nodes-node-need
-returns-then-nodes-node-need g c = record {
+pub returns-then-nodes-node_need : goal.returns-then-nodes-node_need
+returns-then-nodes-node_need g c = record {
   answer = search rules;
   reads = all_read;
   one = all_one;
@@ -67,8 +67,8 @@ returns-then-nodes-node-need g c = record {
   trees = all_trees;
 }
 
-pub returns-then-cells-chart-need : goal.returns-then-cells-chart-need
-returns-then-cells-chart-need g c = record {
+pub returns-then-cells-chart_need : goal.returns-then-cells-chart_need
+returns-then-cells-chart_need g c = record {
   answer = search rules;
   reads = all_read;
   one = all_one;

@@ -10,4 +10,4 @@ pub returns-else-set-eq0 : goal.returns-else-set-eq0
 returns-else-set-eq0 c =
     let k = c.ilog2.result in
     rw (one_shl k 64 c.ilog2.ensures.bound)
-    (near_above c.args.set k c.ilog2.ensures.bound c.ilog2.ensures.power_le c.ilog2.ensures.next-power-gt)
+    (near_above c.args.set k c.ilog2.ensures.bound c.ilog2.ensures.power_le c.ilog2.ensures.next_power_gt)

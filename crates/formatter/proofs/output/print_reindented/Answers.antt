@@ -17,7 +17,7 @@ returns-in-ok-bytes c =
 
 pub returns-in-ok-fault-line : goal.returns-in-ok-fault-line
 returns-in-ok-fault-line c =
-    let v = c.into-bytes-bytes.ensures.value in
+    let v = c.into_bytes-bytes.ensures.value in
     let l = c.in-ok-fault-line.ensures in
     record {
       script = λ e. let z : ◌≡◌ {A = ℕ} 0 1 = cc in absurd (omega arith);

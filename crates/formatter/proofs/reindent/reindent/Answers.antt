@@ -22,9 +22,9 @@ roomy number bytes pieces nodes x b p n e = record {
   unlaid = e.unlaid;
 }
 
-pub returns-in-err-read : goal.returns-in-err-read
-returns-in-err-read c =
-    let p = err_from_is_err_and c.from-residual.result c.from-residual.ensures.1 in
+pub returns-in_err-read : goal.returns-in_err-read
+returns-in_err-read c =
+    let p = err_from_is_err_and c.from_residual.result c.from_residual.ensures.1 in
     rw (p.1, p.2)
     (record {
       is = (
@@ -33,7 +33,7 @@ returns-in-err-read c =
           x = c.new-galley.result;
           y = c.read.new.self;
           roomy = roomy 1 _ _ _ c.new-galley.result refl refl refl c.new-galley.ensures;
-          reads = c.in-err-read.ensures.answer;
+          reads = c.in_err-read.ensures.answer;
         }),
       );
       fits = refl;
@@ -43,15 +43,15 @@ pub returns : goal.returns
 returns c =
     let y = c.read.new.self in
     let old = c.args.out.now in
-    let r = c.lay-and-write.result in
-    let new = c.lay-and-write.new.buffer in
-    let wide = c.in-ok-policy.ensures.0 in
-    let writes = subst (λ (w : ℕ). Prints block (step w) y old 0 r c.lay-and-write.new.self new) wide c.lay-and-write.ensures.prints in
-    let kept = c.lay-and-write.ensures.fits in
+    let r = c.lay_and_write.result in
+    let new = c.lay_and_write.new.buffer in
+    let wide = c.in_ok-policy.ensures.0 in
+    let writes = subst (λ (w : ℕ). Prints block (step w) y old 0 r c.lay_and_write.new.self new) wide c.lay_and_write.ensures.prints in
+    let kept = c.lay_and_write.ensures.fits in
     record {
       is =
-          reindents c.args.text.now old c.new-galley.result y c.lay-and-write.new.self new
-          (roomy 1 _ _ _ c.new-galley.result refl refl refl c.new-galley.ensures) c.in-ok-read.ensures.answer r
+          reindents c.args.text.now old c.new-galley.result y c.lay_and_write.new.self new
+          (roomy 1 _ _ _ c.new-galley.result refl refl refl c.new-galley.ensures) c.in_ok-read.ensures.answer r
           writes kept;
       fits = fits old new r kept;
     }

@@ -1,7 +1,7 @@
 use Rattle.std.proofs.Common.{◌≡◌, ◌+◌, ◌<◌, false, List, length, get_or, take, set, sym, ◌∙◌, subst, arith}
 use Rattle.tree.specs.declared.piece.PieceRecord.{PieceRecord}
 use Rattle.layout.specs.declared.placement.Placement.{Placement}
-use Rattle.layout.specs.Standing.{stand, standing}
+use Rattle.galley.specs.Lays.{stand, standing}
 use Rattle.galley.proofs.Standing.{standing-none, standing_more, standing-all}
 use Rattle.galley.proofs.lay.place_all.Goals as goal
 

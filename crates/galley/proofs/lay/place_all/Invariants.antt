@@ -1,5 +1,5 @@
 use Rattle.std.proofs.Common.{◌≡◌, take}
-use Rattle.layout.specs.Standing.{standing}
+use Rattle.galley.specs.Lays.{standing}
 use Rattle.galley.proofs.lay.place_all.Given as goal
 
 abbrev pub invariant-loop-i : goal.invariant-loop-i

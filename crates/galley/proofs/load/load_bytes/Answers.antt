@@ -3,23 +3,23 @@ use Rattle.galley.specs.Loads.{byte_count, bytes_of}
 use Rattle.galley.proofs.Loading.{count_more, count-below, token-inside, loaded_more, all-tokens}
 use Rattle.galley.proofs.load.load_bytes.Goals as goal
 
-pub overflow-add-end : goal.overflow-add-end
-overflow-add-end c =
+pub overflow_add-end : goal.overflow_add-end
+overflow_add-end c =
     let e = count-below c.args.tokens.now c.loop-i.i c.loop-i-test.true in
     omega (arith, c.loop-i.invariant.0, c.requires.room)
 
-pub slice-bounds-copy-from-slice-end : goal.slice-bounds-copy-from-slice-end
-slice-bounds-copy-from-slice-end c =
+pub slice_bounds-copy_from_slice-end : goal.slice_bounds-copy_from_slice-end
+slice_bounds-copy_from_slice-end c =
     let e = count-below c.args.tokens.now c.loop-i.i c.loop-i-test.true in
     omega (arith, c.loop-i.invariant.0, c.requires.room, c.loop-i.auto.memory)
 
-pub slice-bounds-copy-from-slice-end-in-loop-i : goal.slice-bounds-copy-from-slice-end-in-loop-i
-slice-bounds-copy-from-slice-end-in-loop-i c =
+pub slice_bounds-copy_from_slice-end-in-loop-i : goal.slice_bounds-copy_from_slice-end-in-loop-i
+slice_bounds-copy_from_slice-end-in-loop-i c =
     let e = token-inside c.args.tokens.now c.loop-i.i c.loop-i-test.true c.args.text.now c.requires.inside in
     omega (arith, e.1)
 
-pub overflow-add-end-in-loop-i : goal.overflow-add-end-in-loop-i
-overflow-add-end-in-loop-i c =
+pub overflow_add-end-in-loop-i : goal.overflow_add-end-in-loop-i
+overflow_add-end-in-loop-i c =
     let e = count-below c.args.tokens.now c.loop-i.i c.loop-i-test.true in
     omega (arith, c.loop-i.invariant.0, c.requires.room)
 
@@ -32,8 +32,8 @@ loop-i-preserved c =
     let e = count-below ts i h in
     let fits : c.loop-i.end ≤ length c.loop-i.memory = omega (arith, c.loop-i.invariant.0, c.requires.room, c.loop-i.auto.memory) in (
       omega (arith, c.loop-i.invariant.0),
-      loaded_more ts i h c.args.text.now c.loop-i.memory c.copy-from-slice.new.self c.loop-i.end _ c.requires.inside fits
-          c.loop-i.invariant.1 c.copy-from-slice.ensures.after,
+      loaded_more ts i h c.args.text.now c.loop-i.memory c.copy_from_slice.new.self c.loop-i.end _ c.requires.inside fits
+          c.loop-i.invariant.1 c.copy_from_slice.ensures.after,
     )
 
 pub returns : goal.returns

@@ -3,8 +3,8 @@ use Rattle.layout.proofs.Emits.{left-next, fits, wide_next, so_far, rest-same, t
 use Rattle.layout.proofs.Widths.{width-end}
 use Rattle.layout.proofs.text.emit.Goals as goal
 
-pub slice-bounds-piece-end : goal.slice-bounds-piece-end
-slice-bounds-piece-end c =
+pub slice_bounds-piece-end : goal.slice_bounds-piece-end
+slice_bounds-piece-end c =
     let t = left-next c.args.contents.now.pieces.now c.args.contents.now.bytes.now c.loop-piece.piece-index
     c.loop-piece.start c.loop-piece.reached c.loop-piece-test.true c.loop-piece.invariant.2 in
     search rules

@@ -7,7 +7,7 @@ loop-piece-preserved c =
     let ps = c.args.contents.now.pieces.now in
     let n = width-next ps c.loop-piece.reached c.loop-piece.piece-index c.loop-piece-test.true in
     let s = short ps c.loop-piece.piece-index c.loop-piece-test.true c.args.contents.now.short in
-    let e = c.lead-length.ensures in
+    let e = c.lead_length.ensures in
     (omega arith, omega arith)
 
 pub returns : goal.returns

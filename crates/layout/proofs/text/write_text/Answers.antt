@@ -10,4 +10,4 @@ pub returns : goal.returns
 returns c =
     let w = text_wide 0 c.args.contents.now.pieces.now c.args.contents.now.bytes.now (omega arith) in
     let e = c.emit.ensures in
-    (c.text-length-length.ensures, c.if-length-out.false, cc)
+    (c.text_length-length.ensures, c.if-length-out.false, cc)

@@ -1,6 +1,6 @@
 use Rattle.std.proofs.Common.{◌+◌, ◌&&◌, drop, sym, ap, ◌∙◌, arith}
 use Rattle.std.proofs.lemmas.List.{at_drop_more, at_drop_all}
-use Rattle.pieces.specs.Alone.{every}
+use Rattle.grammar.specs.Lawful.{every}
 use Rattle.pieces.specs.Kinds.{goes_on}
 use Rattle.rulefile.proofs.forms.all_go_on.Goals as goal
 

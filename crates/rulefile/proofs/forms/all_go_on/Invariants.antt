@@ -1,5 +1,5 @@
 use Rattle.std.proofs.Common.{◌≡◌, drop}
-use Rattle.pieces.specs.Alone.{every}
+use Rattle.grammar.specs.Lawful.{every}
 use Rattle.pieces.specs.Kinds.{goes_on}
 use Rattle.rulefile.proofs.forms.all_go_on.Given as goal
 

@@ -1,5 +1,5 @@
 use Rattle.std.proofs.Common.{◌≡◌, drop}
-use Rattle.pieces.specs.Alone.{every}
+use Rattle.grammar.specs.Lawful.{every}
 use Rattle.rulefile.specs.Forms.{letter_or_digit}
 use Rattle.rulefile.proofs.forms.all_letters_or_digits.Given as goal
 

@@ -6,13 +6,13 @@ use Rattle.rulefile.proofs.parts.value_under.Goals as goal
 pub returns-then-eq : goal.returns-then-eq
 returns-then-eq c =
     let e = same-is c.in-Some.own.now c.args.name.now c.eq.result c.eq.ensures in
-    sym (under-here c.args.name.now c.in-Some.own.now c.in-Some-first-part.value.now _ _ _ _
-    c.in-Some.ensures.0 c.in-Some-first-part.ensures.0 (sym e ∙ c.if-eq.true))
+    sym (under-here c.args.name.now c.in-Some.own.now c.in-Some-first_part.value.now _ _ _ _
+    c.in-Some.ensures.0 c.in-Some-first_part.ensures.0 (sym e ∙ c.if-eq.true))
     ∙ c.loop-own.invariant
 
 pub loop-own-preserved : goal.loop-own-preserved
 loop-own-preserved c =
     let e = same-is c.in-Some.own.now c.args.name.now c.eq.result c.eq.ensures in
-    sym (under-later c.args.name.now c.in-Some.own.now c.in-Some-first-part.value.now _ _ _ _
-    c.in-Some.ensures.0 c.in-Some-first-part.ensures.0 (sym e ∙ c.if-eq.false))
+    sym (under-later c.args.name.now c.in-Some.own.now c.in-Some-first_part.value.now _ _ _ _
+    c.in-Some.ensures.0 c.in-Some-first_part.ensures.0 (sym e ∙ c.if-eq.false))
     ∙ c.loop-own.invariant

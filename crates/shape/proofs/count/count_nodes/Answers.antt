@@ -22,14 +22,14 @@ returns-then-owed-eq0 c =
     ∙ span_zero (drop c.loop-i.i c.args.nodes.now) in
     omega (arith, c.loop-i.invariant.0)
 
-pub overflow-add-owed : goal.overflow-add-owed
-overflow-add-owed c =
+pub overflow_add-owed : goal.overflow_add-owed
+overflow_add-owed c =
     let ns = c.args.nodes.now in
     let k = c.loop-i.invariant.1.0 in
     let e = closed ns c.loop-i.i c.loop-i.owed k c.loop-i-test.true c.if-owed-eq0.false c.loop-i.invariant.1.1 in
     let f = closes-few (c.loop-i.owed - 1 + kids (under (get_or ns c.loop-i.i blank)) + k) (drop (c.loop-i.i + 1) ns) e in
     let l = length-drop (c.loop-i.i + 1) ns in
-    omega (arith, c.kid-count.ensures.0)
+    omega (arith, c.kid_count.ensures.0)
 
 pub loop-i-preserved : goal.loop-i-preserved
 loop-i-preserved c =
@@ -37,7 +37,7 @@ loop-i-preserved c =
     let k = c.loop-i.invariant.1.0 in
     let e = closed ns c.loop-i.i c.loop-i.owed k c.loop-i-test.true c.if-owed-eq0.false c.loop-i.invariant.1.1 in
     let s = spanned ns c.loop-i.i c.loop-i.owed k c.loop-i-test.true c.if-owed-eq0.false in
-    rw c.kid-count.ensures.0 (omega (arith, c.loop-i.invariant.0), (k, e))
+    rw c.kid_count.ensures.0 (omega (arith, c.loop-i.invariant.0), (k, e))
 
 pub returns : goal.returns
 returns c =

@@ -9,8 +9,8 @@ use Rattle.shape.proofs.count.count_path.Goals as goal
 pub loop-i-init : goal.loop-i-init
 loop-i-init c = sym (ap path (drop_all (length c.args.nodes.now) c.args.nodes.now (omega arith)))
 
-pub widen-so-far-requires : goal.widen-so-far-requires
-widen-so-far-requires c =
+pub widen-so_far-requires : goal.widen-so_far-requires
+widen-so_far-requires c =
     let ns = c.args.nodes.now in
     let f = path-few (drop c.loop-i.i ns) in
     let d = pieces-drop ns c.loop-i.i in
@@ -27,4 +27,4 @@ loop-i-preserved c =
     let m = path_more ns i blank (omega arith) in
     let n = ap (λ (k : ℕ). path (drop k ns)) e in
     let w = ap (widened (under (get_or ns i blank))) c.loop-i.invariant in
-    c.widen-so-far.ensures ∙ w ∙ sym (m ∙ ap (widened (under (get_or ns i blank))) n)
+    c.widen-so_far.ensures ∙ w ∙ sym (m ∙ ap (widened (under (get_or ns i blank))) n)

@@ -7,7 +7,7 @@ use Rattle.shape.proofs.count.count_pieces.Goals as goal
 pub loop-node-preserved : goal.loop-node-preserved
 loop-node-preserved c =
     let m = pieces_more c.args.nodes.now c.loop-node.node-index blank c.loop-node-test.true in
-    omega (arith, c.loop-node.invariant, c.leaf-count-count.ensures)
+    omega (arith, c.loop-node.invariant, c.leaf_count-count.ensures)
 
 pub returns : goal.returns
 returns c =

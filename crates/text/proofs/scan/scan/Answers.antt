@@ -23,23 +23,23 @@ loop-piece-init g c =
       ),
     )
 
-pub returns-in-err-piece : goal.returns-in-err-piece
-returns-in-err-piece g c =
-    let p = err_from_is_err_and c.from-residual.result c.from-residual.ensures.1 in
+pub returns-in_err-piece : goal.returns-in_err-piece
+returns-in_err-piece g c =
+    let p = err_from_is_err_and c.from_residual.result c.from_residual.ensures.1 in
     let inv = c.loop-piece.invariant in
     let G = g.G.Grammar.model c.args.g.now in
     let text = c.args.text.now in
     rw (p.1, p.2)
     (exactly G text _
-    (refuses G text c.loop-piece.reader inv.0 inv.1.0 inv.1.1 c.next-piece.new.self c.in-err-piece.field-0.0
-    c.in-err-piece.ensures))
+    (refuses G text c.loop-piece.reader inv.0 inv.1.0 inv.1.1 c.next_piece.new.self c.in_err-piece.field-0.0
+    c.in_err-piece.ensures))
 
 pub add-requires : goal.add-requires
 add-requires g c =
     let inv = c.loop-piece.invariant in
     let G = g.G.Grammar.model c.args.g.now in
-    let y = c.next-piece.new.self in
-    let h = handed c.loop-piece.reader y _ (Some c.in-Some.piece) c.in-Some.is c.in-ok-piece.ensures in
+    let y = c.next_piece.new.self in
+    let h = handed c.loop-piece.reader y _ (Some c.in-Some.piece) c.in-Some.is c.in_ok-piece.ensures in
     let far = further G c.args.text.now c.loop-piece.reader inv.0 inv.1.0 inv.1.1 y c.in-Some.piece h in
     record { few = omega (arith, far, advance inv.1.1, inv.1.2.count, y.near) }
 
@@ -47,8 +47,8 @@ pub loop-piece-smaller : goal.loop-piece-smaller
 loop-piece-smaller g c =
     let inv = c.loop-piece.invariant in
     let G = g.G.Grammar.model c.args.g.now in
-    let y = c.next-piece.new.self in
-    let h = handed c.loop-piece.reader y _ (Some c.in-Some.piece) c.in-Some.is c.in-ok-piece.ensures in
+    let y = c.next_piece.new.self in
+    let h = handed c.loop-piece.reader y _ (Some c.in-Some.piece) c.in-Some.is c.in_ok-piece.ensures in
     let far = further G c.args.text.now c.loop-piece.reader inv.0 inv.1.0 inv.1.1 y c.in-Some.piece h in
     let same : y.text.now ≡ c.args.text.now = ap (λ x. x.now) h.text ∙ inv.0 in
     let long : y.offset ≤ length c.args.text.now = rw same at y.within in
@@ -58,9 +58,9 @@ pub loop-piece-preserved : goal.loop-piece-preserved
 loop-piece-preserved g c =
     let inv = c.loop-piece.invariant in
     let G = g.G.Grammar.model c.args.g.now in
-    let y = c.next-piece.new.self in
+    let y = c.next_piece.new.self in
     let h : Hands c.loop-piece.reader (Ok (Some c.in-Some.piece)) y
-    = subst (λ (o : Option Piece). Hands c.loop-piece.reader (Ok o) y) c.in-Some.is c.in-ok-piece.ensures in (
+    = subst (λ (o : Option Piece). Hands c.loop-piece.reader (Ok o) y) c.in-Some.is c.in_ok-piece.ensures in (
       ap (λ x. x.now) h.text ∙ inv.0,
       (
         inv.1.0 ++ found c.in-Some.piece ∷ [],
@@ -73,8 +73,8 @@ pub returns : goal.returns
 returns g c =
     let inv = c.loop-piece.invariant in
     let G = g.G.Grammar.model c.args.g.now in
-    let y = c.next-piece.new.self in
-    let h = handed c.loop-piece.reader y _ None c.in-default.is c.in-ok-piece.ensures in
+    let y = c.next_piece.new.self in
+    let h = handed c.loop-piece.reader y _ None c.in_default.is c.in_ok-piece.ensures in
     let e = c.verdict.ensures G inv.1.0 inv.1.2 in
     let text = c.args.text.now in
     exactly G text _

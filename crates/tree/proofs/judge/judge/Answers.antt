@@ -7,10 +7,10 @@ loop-preserved g c =
     let G = g.G.Grammar.model c.args.grammar.now in
     let w = c.loop.walk in
     let v = c.next.new.self in
-    let answer = under 0 w v c.in-ok-next.field-0 (ap g.G.Grammar.model c.loop.invariant.0)
-    c.in-ok-next.ensures.next in
+    let answer = under 0 w v c.in_ok-next.field-0 (ap g.G.Grammar.model c.loop.invariant.0)
+    c.in_ok-next.ensures.next in
     let came = at_some G 0 w v _ _ c.in-Some.is answer in (
-      ap (λ x. x.now) c.in-ok-next.ensures.same.grammar ∙ c.loop.invariant.0,
+      ap (λ x. x.now) c.in_ok-next.ensures.same.grammar ∙ c.loop.invariant.0,
       λ ahead. c.loop.invariant.1 (came_back G 0 0 w v c.in-Some.field-0 came ahead),
       λ tree. came_on G 0 0 w v c.in-Some.field-0 came (c.loop.invariant.2 tree),
     )
@@ -20,6 +20,6 @@ returns g c =
     let G = g.G.Grammar.model c.args.grammar.now in
     let w = c.loop.walk in
     let v = c.next.new.self in
-    let answer = under 0 w v c.in-ok-next.field-0 (ap g.G.Grammar.model c.loop.invariant.0)
-    c.in-ok-next.ensures.next in
-    c.loop.invariant.1 (at_none G 0 w v _ c.in-default.is answer)
+    let answer = under 0 w v c.in_ok-next.field-0 (ap g.G.Grammar.model c.loop.invariant.0)
+    c.in_ok-next.ensures.next in
+    c.loop.invariant.1 (at_none G 0 w v _ c.in_default.is answer)

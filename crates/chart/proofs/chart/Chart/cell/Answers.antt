@@ -2,7 +2,7 @@ use Rattle.std.proofs.Common.{ℕ, ◌+◌, sym, subst, arith}
 use Rattle.columns.specs.Mask.{Means}
 use Rattle.chart.proofs.Rules.{Rules, rules-none, rules_more, rules_skip, rules-all}
 use Rattle.chart.proofs.chart.Chart.cell.Goals as goal
-use Rattle.chart.proofs.chart.Chart.cell.Goals.{in-Some, in-default}
+use Rattle.chart.proofs.chart.Chart.cell.Goals.{in-Some, in_default}
 
 pub row-all-requires : goal.row-all-requires
 row-all-requires g c =
@@ -27,12 +27,12 @@ loop-number-preserved g c =
     let ts = c.args.self.now.tokens.now in
     let n = c.loop-number.number in
     let P : ℕ → Type 0 = λ m. Means m (Rules G ts c.args.a c.args.i c.args.j (n + 1)) in
-    elim c.match-items-of.branch [
+    elim c.match-items_of.branch [
       | in-Some w ↦ subst P (sym w.all-is)
           (rules_more G ts c.args.a c.args.i c.args.j n c.loop-number.all w.row-all.result w.in-Some.items
           c.loop-number.invariant w.in-Some.ensures w.row-all.ensures)
-      | in-default w ↦ subst P (sym w.all-is)
-          (rules_skip G ts c.args.a c.args.i c.args.j n c.loop-number.all c.loop-number.invariant w.in-default.ensures)
+      | in_default w ↦ subst P (sym w.all-is)
+          (rules_skip G ts c.args.a c.args.i c.args.j n c.loop-number.all c.loop-number.invariant w.in_default.ensures)
     ]
 
 pub returns : goal.returns

@@ -12,8 +12,8 @@ returns-then-has g c = record {
   within = omega arith;
   first = cut-here (g.G.Grammar.model c.args.self.now.grammar.now) c.args.self.now.tokens.now c.args.x c.args.y
       (c.args.z ∷ [])
-      c.args.i c.args.j c.args.column c.loop-cut.cut c.row-one-front.result c.row-two-back.result
-      c.row-one-front.ensures c.row-two-back.ensures
+      c.args.i c.args.j c.args.column c.loop-cut.cut c.row_one-front.result c.row_two-back.result
+      c.row_one-front.ensures c.row_two-back.ensures
       c.if-has.ensures c.loop-cut.invariant;
 }
 
@@ -22,13 +22,13 @@ loop-cut-preserved g c =
     below_more _ _ c.loop-cut.invariant
     (cut_past (g.G.Grammar.model c.args.self.now.grammar.now) c.args.self.now.tokens.now c.args.x c.args.y
     (c.args.z ∷ [])
-    c.args.i c.args.j c.args.column c.loop-cut.cut c.row-one-front.result c.row-two-back.result
-    c.row-one-front.ensures c.row-two-back.ensures
+    c.args.i c.args.j c.args.column c.loop-cut.cut c.row_one-front.result c.row_two-back.result
+    c.row_one-front.ensures c.row_two-back.ensures
     c.if-has.ensures)
 
 pub unreachable-requires : goal.unreachable-requires
 unreachable-requires g c =
     no_cut (g.G.Grammar.model c.args.self.now.grammar.now) c.args.self.now.tokens.now c.args.x c.args.y
     (c.args.z ∷ [])
-    c.args.i c.args.j c.args.column c.loop-cut.cut (omega (arith, c.past-end-cut-end.ensures.value))
+    c.args.i c.args.j c.args.column c.loop-cut.cut (omega (arith, c.past_end-cut-end.ensures.value))
     c.loop-cut.invariant c.requires.some

@@ -33,13 +33,13 @@ wait-requires-in-Two g c =
     let ts = c.args.self.now.tokens.now in
     let b : All (λ x. Below G x.symbol) (c.in-Two.x ∷ c.in-Two.y ∷ []) =
     subst (λ (xs : Items). All (λ x. Below G x.symbol) (listed xs)) c.in-Two.is c.requires.below in
-    let k = c.cut-two-k.result in
+    let k = c.cut_two-k.result in
     record {
       ready = c.requires.ready;
       filled = c.requires.filled;
-      within = (c.cut-two-k.ensures.within.1, c.requires.within.1);
+      within = (c.cut_two-k.ensures.within.1, c.requires.within.1);
       below = b.1.0;
-      some = row_one G ts c.in-Two.y k c.args.j c.args.column c.cut-two-k.ensures.first.back;
+      some = row_one G ts c.in-Two.y k c.args.j c.args.column c.cut_two-k.ensures.first.back;
       free = omega (arith, c.requires.free, c.requires.within.0);
     }
 
@@ -49,13 +49,13 @@ wait-requires-in-Three g c =
     let ts = c.args.self.now.tokens.now in
     let b : All (λ x. Below G x.symbol) (c.in-Three.x ∷ c.in-Three.y ∷ c.in-Three.z ∷ []) =
     subst (λ (xs : Items). All (λ x. Below G x.symbol) (listed xs)) c.in-Three.is c.requires.below in
-    let m = c.cut-two-m.result in
+    let m = c.cut_two-m.result in
     record {
       ready = c.requires.ready;
       filled = c.requires.filled;
-      within = (c.cut-two-m.ensures.within.1, c.requires.within.1);
+      within = (c.cut_two-m.ensures.within.1, c.requires.within.1);
       below = b.1.1.0;
-      some = row_one G ts c.in-Three.z m c.args.j c.args.column c.cut-two-m.ensures.first.back;
+      some = row_one G ts c.in-Three.z m c.args.j c.args.column c.cut_two-m.ensures.first.back;
       free = omega (arith, c.requires.free, c.requires.within.0);
     }
 
@@ -76,8 +76,8 @@ pub returns-in-Two : goal.returns-in-Two
 returns-in-Two g c =
     let G = g.G.Grammar.model c.args.self.now.grammar.now in
     let ts = c.args.self.now.tokens.now in
-    let k = c.cut-two-k.result in
-    let s = c.cut-two-k.ensures.first in
+    let k = c.cut_two-k.result in
+    let s = c.cut_two-k.ensures.first in
     let y = c.wait-in-Two.ensures in
     let x = c.wait-in-Two-2.ensures in (
       x.0 ++ y.0,
@@ -92,10 +92,10 @@ pub returns-in-Three : goal.returns-in-Three
 returns-in-Three g c =
     let G = g.G.Grammar.model c.args.self.now.grammar.now in
     let ts = c.args.self.now.tokens.now in
-    let k = c.cut-three-k.result in
-    let m = c.cut-two-m.result in
-    let s = c.cut-three-k.ensures.first in
-    let t = c.cut-two-m.ensures.first in
+    let k = c.cut_three-k.result in
+    let m = c.cut_two-m.result in
+    let s = c.cut_three-k.ensures.first in
+    let t = c.cut_two-m.ensures.first in
     let z = c.wait-in-Three.ensures in
     let y = c.wait-in-Three-2.ensures in
     let x = c.wait-in-Three-3.ensures in

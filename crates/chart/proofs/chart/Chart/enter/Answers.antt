@@ -11,8 +11,8 @@ divide-requires g c =
     let G = g.G.Grammar.model c.args.self.now.grammar.now in
     let ts = c.args.self.now.tokens.now in
     let w = c.args.next in
-    let r = c.lowest-rule-number.result in
-    let e = c.lowest-rule-number.ensures.items in
+    let r = c.lowest_rule-number.result in
+    let e = c.lowest_rule-number.ensures.items in
     record {
       ready = c.requires.ready;
       filled = c.requires.filled;
@@ -21,7 +21,7 @@ divide-requires g c =
         left = w.symbol;
         items = r.items;
       } e).below;
-      some = rule_hit G ts w.symbol w.from w.to r.number r.items e w.column c.lowest-rule-number.ensures.lowest.fits;
+      some = rule_hit G ts w.symbol w.from w.to r.number r.items e w.column c.lowest_rule-number.ensures.lowest.fits;
       free = c.requires.free;
     }
 
@@ -31,11 +31,11 @@ returns g c =
     let ts = c.args.self.now.tokens.now in
     let w = c.args.next in
     let d = c.divide.ensures in
-    let r = c.lowest-rule-number.result in
+    let r = c.lowest_rule-number.result in
     let rule : Rule = record { left = w.symbol; items = r.items } in (
       d.0,
       d.1,
       subst (λ (x : Shape). Entered G ts w record { rule = r.number; left = w.symbol; shape = x } d.0) (sym c.shape.ensures)
           (entered G ts (g.met.G.Grammar.lawful c.args.self.now.grammar.now) w r.number rule d.0 c.requires.due
-          c.lowest-rule-number.ensures.lowest c.lowest-rule-number.ensures.items d.2),
+          c.lowest_rule-number.ensures.lowest c.lowest_rule-number.ensures.items d.2),
     )

@@ -2,7 +2,7 @@ use Rattle.std.proofs.Common.{arith, below_more}
 use Rattle.chart.proofs.Rules.{rule_miss}
 use Rattle.chart.proofs.Picks.{no_rule, rule-here, rule_past}
 use Rattle.chart.proofs.chart.Chart.lowest_rule.Goals as goal
-use Rattle.chart.proofs.chart.Chart.lowest_rule.Goals.{in-Some+else-has, in-default}
+use Rattle.chart.proofs.chart.Chart.lowest_rule.Goals.{in-Some+else-has, in_default}
 
 pub row-requires : goal.row-requires
 row-requires g c =
@@ -29,12 +29,12 @@ pub loop-number-preserved : goal.loop-number-preserved
 loop-number-preserved g c =
     let G = g.G.Grammar.model c.args.self.now.grammar.now in
     let ts = c.args.self.now.tokens.now in
-    elim c.match-items-of.branch [
+    elim c.match-items_of.branch [
       | in-Some+else-has w ↦ below_more _ _ c.loop-number.invariant
           (rule_past G ts c.args.a c.args.i c.args.j c.args.column c.loop-number.number w.row.result w.in-Some.items
           w.in-Some.ensures w.row.ensures w.if-has.ensures)
-      | in-default w ↦ below_more _ _ c.loop-number.invariant
-          (rule_miss G ts c.args.a c.args.i c.args.j c.loop-number.number w.in-default.ensures c.args.column)
+      | in_default w ↦ below_more _ _ c.loop-number.invariant
+          (rule_miss G ts c.args.a c.args.i c.args.j c.loop-number.number w.in_default.ensures c.args.column)
     ]
 
 pub unreachable-requires : goal.unreachable-requires

@@ -20,8 +20,8 @@ loop-cut-preserved g c =
           (λ (m : ℕ). Means m (Cuts G ts c.args.x (c.args.y ∷ c.args.z ∷ []) c.args.i c.args.j (c.loop-cut.cut + 1)))
           (sym w.all-is)
           (cuts_more G ts c.args.x (c.args.y ∷ c.args.z ∷ []) c.args.i c.args.j c.loop-cut.cut c.loop-cut.all
-          c.part-front.result w.node-columns.result w.row-two.result (omega arith) c.loop-cut.invariant
-          c.part-front.ensures w.node-columns.ensures w.row-two.ensures)
+          c.part-front.result w.node_columns.result w.row_two.result (omega arith) c.loop-cut.invariant
+          c.part-front.ensures w.node_columns.ensures w.row_two.ensures)
       | else-front-ne0 w ↦ subst
           (λ (m : ℕ). Means m (Cuts G ts c.args.x (c.args.y ∷ c.args.z ∷ []) c.args.i c.args.j (c.loop-cut.cut + 1)))
           (sym w.all-is)
@@ -34,4 +34,4 @@ pub returns : goal.returns
 returns g c =
     cuts_all (g.G.Grammar.model c.args.self.now.grammar.now) c.args.self.now.tokens.now c.args.x c.args.y
     (c.args.z ∷ [])
-    c.args.i c.args.j c.loop-cut.cut c.loop-cut.all (omega (arith, c.past-end-cut-end.ensures.value)) c.loop-cut.invariant
+    c.args.i c.args.j c.loop-cut.cut c.loop-cut.all (omega (arith, c.past_end-cut-end.ensures.value)) c.loop-cut.invariant

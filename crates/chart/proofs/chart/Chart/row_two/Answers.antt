@@ -8,8 +8,8 @@ pub loop-cut-init : goal.loop-cut-init
 loop-cut-init g c =
     let G = g.G.Grammar.model c.args.self.now.grammar.now in
     let ts = c.args.self.now.tokens.now in
-    cuts_none G ts c.args.x (c.args.y ∷ []) c.args.i c.args.j c.first-begin-cut.result
-    (λ k d l r. omega (arith, cut_begin G ts c.args.y c.args.i k c.args.j d l r, c.first-begin-cut.ensures.value))
+    cuts_none G ts c.args.x (c.args.y ∷ []) c.args.i c.args.j c.first_begin-cut.result
+    (λ k d l r. omega (arith, cut_begin G ts c.args.y c.args.i k c.args.j d l r, c.first_begin-cut.ensures.value))
 
 pub loop-cut-preserved : goal.loop-cut-preserved
 loop-cut-preserved g c =
@@ -19,8 +19,8 @@ loop-cut-preserved g c =
       | then-front-ne0 w ↦ subst
           (λ (m : ℕ). Means m (Cuts G ts c.args.x (c.args.y ∷ []) c.args.i c.args.j (c.loop-cut.cut + 1))) (sym w.all-is)
           (cuts_more G ts c.args.x (c.args.y ∷ []) c.args.i c.args.j c.loop-cut.cut c.loop-cut.all
-          c.part-front.result w.node-columns.result w.row-one.result (omega arith) c.loop-cut.invariant
-          c.part-front.ensures w.node-columns.ensures w.row-one.ensures)
+          c.part-front.result w.node_columns.result w.row_one.result (omega arith) c.loop-cut.invariant
+          c.part-front.ensures w.node_columns.ensures w.row_one.ensures)
       | else-front-ne0 w ↦ subst
           (λ (m : ℕ). Means m (Cuts G ts c.args.x (c.args.y ∷ []) c.args.i c.args.j (c.loop-cut.cut + 1))) (sym w.all-is)
           (cuts_skip G ts c.args.x (c.args.y ∷ []) c.args.i c.args.j c.loop-cut.cut c.loop-cut.all
@@ -31,4 +31,4 @@ loop-cut-preserved g c =
 pub returns : goal.returns
 returns g c =
     cuts_all (g.G.Grammar.model c.args.self.now.grammar.now) c.args.self.now.tokens.now c.args.x c.args.y ([])
-    c.args.i c.args.j c.loop-cut.cut c.loop-cut.all (omega (arith, c.past-end-cut-end.ensures.value)) c.loop-cut.invariant
+    c.args.i c.args.j c.loop-cut.cut c.loop-cut.all (omega (arith, c.past_end-cut-end.ensures.value)) c.loop-cut.invariant

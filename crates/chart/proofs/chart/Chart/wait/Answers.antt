@@ -8,7 +8,7 @@ pub unreachable-requires : goal.unreachable-requires
 unreachable-requires g c =
     no_least (g.G.Grammar.model c.args.self.now.grammar.now) c.args.self.now.tokens.now c.args.x c.args.i
     c.args.j
-    c.args.column c.part.result c.part.ensures c.requires.some c.in-default-least.ensures
+    c.args.column c.part.result c.part.ensures c.requires.some c.in_default-least.ensures
 
 pub returns-in-Some : goal.returns-in-Some
 returns-in-Some g c =

@@ -84,4 +84,4 @@ returns g c =
     let top : Waiting = whole ts c.args.symbol c.args.column in
     walk_end G ts top c.args.nodes.now c.loop-next.count c.loop-next.nodes
     (subst (λ (ws : List Waiting). Walking G ts top c.args.nodes.now ws c.loop-next.count c.loop-next.nodes)
-    c.in-default.ensures.0 c.loop-next.invariant)
+    c.in_default.ensures.0 c.loop-next.invariant)

@@ -1,7 +1,7 @@
 use Rattle.std.proofs.Common.{◌≡◌, length, Some, Ok, refl, ap, ◌∙◌}
 use Rattle.layout.specs.Text.{text}
 use Rattle.galley.specs.Stores.{front}
-use Rattle.layout.specs.Standing.{standing}
+use Rattle.galley.specs.Lays.{standing}
 use Rattle.galley.proofs.LaidOut.{laid_at, lays}
 use Rattle.galley.proofs.galley.Galley.lay.Goals as goal
 
@@ -12,17 +12,17 @@ returns g c =
     let P = g.P.Policy.answers c.args.policy.now in
     let bytes = c.contents-2.ensures.bytes in
     let pieces = c.contents-2.ensures.pieces in
-    let count = c.text-length-length.ensures in
-    let long : c.text-length-length.result ≡ length (text 0 (front c.place-pieces.new.self) (front x.held.bytes)) = cc in
+    let count = c.text_length-length.ensures in
+    let long : c.text_length-length.result ≡ length (text 0 (front c.place_pieces.new.self) (front x.held.bytes)) = cc in
     let out =
-    laid_at G P x (Ok c.in-ok-layout.layout) _ _ _ c.contents.ensures.bytes c.contents.ensures.pieces c.contents.ensures.nodes
-    c.in-ok-layout.ensures in
-    lays G P x _ _ c.in-ok-layout.layout c.if-is-some.ensures c.if-self-eq0.false out
+    laid_at G P x (Ok c.in_ok-layout.layout) _ _ _ c.contents.ensures.bytes c.contents.ensures.pieces c.contents.ensures.nodes
+    c.in_ok-layout.ensures in
+    lays G P x _ _ c.in_ok-layout.layout c.if-is_some.ensures c.if-self-eq0.false out
     (record {
       number = refl;
       bytes = refl;
-      pieces = c.place-pieces.ensures.front ∙ ap (standing (front x.held.pieces)) c.as-slice.ensures;
-      piece_room = c.place-pieces.ensures.room;
+      pieces = c.place_pieces.ensures.front ∙ ap (standing (front x.held.pieces)) c.as_slice.ensures;
+      piece_room = c.place_pieces.ensures.room;
       nodes = refl;
       laid = ap Some long;
       slip_number = refl;

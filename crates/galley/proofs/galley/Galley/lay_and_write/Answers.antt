@@ -7,17 +7,17 @@ use Rattle.galley.proofs.galley.Galley.lay_and_write.Goals as goal
 
 pub returns-in-Ok : goal.returns-in-Ok
 returns-in-Ok g c =
-    let s = c.in-ok-slip.slip in
+    let s = c.in_ok-slip.slip in
     let y = c.lay.new.self in
     let w = c.in-Ok.ensures in
     record {
-      prints = (s, y, c.in-ok-slip.ensures, w);
+      prints = (s, y, c.in_ok-slip.ensures, w);
       fits = wrote_fits s y c.args.buffer.now c.args.start c.in-Ok.length c.write.new.self c.write.new.buffer w;
     }
 
 pub returns-in-Err : goal.returns-in-Err
 returns-in-Err g c =
-    let s = c.in-ok-slip.slip in
+    let s = c.in_ok-slip.slip in
     let y = c.lay.new.self in
     let old = c.args.buffer.now in
     let start = c.args.start in
@@ -31,18 +31,18 @@ returns-in-Err g c =
         slip = s;
         laid = y;
         still = c.write.new.self;
-        lays = c.in-ok-slip.ensures;
+        lays = c.in_ok-slip.ensures;
         declines = declines;
-        lets = c.let-go.ensures;
+        lets = c.let_go.ensures;
       });
       fits = same.1;
     }
 
-pub let-go-requires : goal.let-go-requires
-let-go-requires g c =
-    let s = c.in-ok-slip.slip in
+pub let_go-requires : goal.let_go-requires
+let_go-requires g c =
+    let s = c.in_ok-slip.slip in
     let y = c.lay.new.self in
     let old = c.args.buffer.now in
     let x = c.args.self.now in
-    let_go_fine (write_fault s y (length old) c.args.start) (no_lay x) (g.G.Grammar.model c.args.g.now) (g.P.Policy.answers c.args.policy.now) s x y c.write.new.self c.in-Err.field-0 old c.write.new.buffer c.args.start c.in-ok-slip.ensures
+    let_go_fine (write_fault s y (length old) c.args.start) (no_lay x) (g.G.Grammar.model c.args.g.now) (g.P.Policy.answers c.args.policy.now) s x y c.write.new.self c.in-Err.field-0 old c.write.new.buffer c.args.start c.in_ok-slip.ensures
     c.in-Err.ensures

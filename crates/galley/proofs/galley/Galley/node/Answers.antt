@@ -2,8 +2,8 @@ use Rattle.std.proofs.Common.{◌≡◌, ℕ, ◌-◌, take, ap, ◌∙◌, arit
 use Rattle.shape.specs.Children.{one_tree, pieces_in}
 use Rattle.galley.proofs.galley.Galley.node.Goals as goal
 
-pub invariant-of-node : goal.invariant-of-node
-invariant-of-node c =
+pub invariant_of-node : goal.invariant_of-node
+invariant_of-node c =
     let x = c.args.self.now in
     let ns = x.held.nodes.memory.now in
     let z : x.held.nodes.used - 0 ≡ x.held.nodes.used = omega arith in

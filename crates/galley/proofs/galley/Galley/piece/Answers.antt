@@ -40,6 +40,6 @@ returns c =
     let i = c.args.number in
     let e = lent s.memory.now s.used in
     let z : i - 0 ≡ i = omega arith in
-    let t = told_at (take (s.used - 0) s.memory.now) i c.sum-lengths.result c.if-number-pieces.false
-    (c.sum-lengths.ensures ∙ ap (λ (k : ℕ). total (take k (take (s.used - 0) s.memory.now))) z) in
+    let t = told_at (take (s.used - 0) s.memory.now) i c.sum_lengths.result c.if-number-pieces.false
+    (c.sum_lengths.ensures ∙ ap (λ (k : ℕ). total (take k (take (s.used - 0) s.memory.now))) z) in
     t ∙ ap (λ (ps : List PieceRecord). piece_told ps i) e

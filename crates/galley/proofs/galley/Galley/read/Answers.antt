@@ -4,12 +4,12 @@ use Rattle.text.proofs.Places.{accepted-inside}
 use Rattle.galley.proofs.Taking.{settled}
 use Rattle.galley.proofs.galley.Galley.read.Goals as goal
 
-pub take-over-requires : goal.take-over-requires
-take-over-requires g c =
+pub take_over-requires : goal.take_over-requires
+take_over-requires g c =
     let x = c.args.self.now in
     record {
       own = record { fit = x.fit; few = x.few; short = x.short; whole = x.whole; tree = x.tree; over = x.over };
-      inside = accepted-inside (g.G.Grammar.model c.args.g.now) c.args.text.now (listed c.in-ok-tokens.tokens) c.in-ok-tokens.ensures.holds;
+      inside = accepted-inside (g.G.Grammar.model c.args.g.now) c.args.text.now (listed c.in_ok-tokens.tokens) c.in_ok-tokens.ensures.holds;
     }
 
 pub returns : goal.returns
@@ -17,7 +17,7 @@ returns g c = record {
   zero = search rules;
   answer = λ v j.
       settled (g.G.Grammar.model c.args.g.now) c.args.symbol (length c.args.chart.now) c.args.text.now
-      (listed c.in-ok-tokens.tokens) v c.args.self.now _ c.take-over.result (c.in-ok-tokens.ensures.only v j)
-      c.if-is-some.ensures
-      (omega (arith, c.if-symbol-nonterminals.false, c.nonterminals.ensures)) refl refl c.take-over.ensures.took;
+      (listed c.in_ok-tokens.tokens) v c.args.self.now _ c.take_over.result (c.in_ok-tokens.ensures.only v j)
+      c.if-is_some.ensures
+      (omega (arith, c.if-symbol-nonterminals.false, c.nonterminals.ensures)) refl refl c.take_over.ensures.took;
 }

@@ -5,9 +5,9 @@ use Rattle.layout.proofs.line_writer.LineWriter.bytes.Goals as goal
 pub returns : goal.returns
 returns c =
     let out = c.args.self.now.out.now in
-    let wrote = c.copy-from-slice.new.self in
+    let wrote = c.copy_from_slice.new.self in
     let at = c.args.self.now.position in
-    let is = c.copy-from-slice.ensures.after in
+    let is = c.copy_from_slice.ensures.after in
     record {
       position = refl;
       same = refl;

@@ -6,14 +6,14 @@ use Rattle.pieces.proofs.reader.PieceReader.skip_blanks.Goals as goal
 pub loop-self-init : goal.loop-self-init
 loop-self-init c = (refl, Reads.here)
 
-pub returns-in-default : goal.returns-in-default
-returns-in-default c =
+pub returns-in_default : goal.returns-in_default
+returns-in_default c =
     record {
       text = c.loop-self.invariant.0;
       reads = c.loop-self.invariant.1;
       stands =
           paused c.loop-self.self.text.now c.loop-self.self.offset c.loop-self-test.true
-          c.loop-self.self.position c.in-default.ensures.is;
+          c.loop-self.self.position c.in_default.ensures.is;
     }
 
 pub loop-self-preserved : goal.loop-self-preserved

@@ -9,6 +9,6 @@ use Rattle.rulefile.proofs.loaded.LoadedGrammar.nonterminal_name.Goals as goal
 pub returns : goal.returns
 returns c =
     ap (λ (o : Option Spelling). option_map spelled o)
-    (c.copied.ensures ∙ get_nth c.as-slice.result.now c.args.number c.get.result c.get.ensures.finds
-    ∙ ap (λ (xs : List Spelling). slice_get xs c.args.number) c.as-slice.ensures.is)
+    (c.copied.ensures ∙ get_nth c.as_slice.result.now c.args.number c.get.result c.get.ensures.lookup
+    ∙ ap (λ (xs : List Spelling). slice_get xs c.args.number) c.as_slice.ensures.is)
     ∙ sym (nth-map spelled _ c.args.number)

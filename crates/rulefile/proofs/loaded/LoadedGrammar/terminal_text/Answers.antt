@@ -9,6 +9,6 @@ use Rattle.rulefile.proofs.loaded.LoadedGrammar.terminal_text.Goals as goal
 pub returns : goal.returns
 returns c =
     ap (λ (o : Option Terminal). option_map denoted o)
-    (c.copied.ensures ∙ get_nth c.as-slice-terminals.result.now c.args.number c.get.result c.get.ensures.finds
-    ∙ ap (λ (xs : List Terminal). slice_get xs c.args.number) c.as-slice-terminals.ensures.is)
+    (c.copied.ensures ∙ get_nth c.as_slice-terminals.result.now c.args.number c.get.result c.get.ensures.lookup
+    ∙ ap (λ (xs : List Terminal). slice_get xs c.args.number) c.as_slice-terminals.ensures.is)
     ∙ sym (nth-map denoted _ c.args.number)

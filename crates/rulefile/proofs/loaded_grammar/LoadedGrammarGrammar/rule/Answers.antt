@@ -6,5 +6,5 @@ use Rattle.rulefile.proofs.loaded_grammar.LoadedGrammarGrammar.rule.Goals as goa
 
 pub returns : goal.returns
 returns c =
-    c.copied.ensures ∙ get_nth c.as-slice.result.now c.args.number c.get.result c.get.ensures.finds
-    ∙ ap (λ (rs : List Rule). slice_get rs c.args.number) c.as-slice.ensures.is
+    c.copied.ensures ∙ get_nth c.as_slice.result.now c.args.number c.get.result c.get.ensures.lookup
+    ∙ ap (λ (rs : List Rule). slice_get rs c.args.number) c.as_slice.ensures.is

@@ -11,7 +11,7 @@ pub returns : goal.returns
 returns c =
     let s = c.args.self.now in
     let x = c.args.name in
-    let is = c.place-at.ensures.is ∙ ap (λ (w : List ℕ). place (same_name w) (names s)) c.as-slice.ensures in
+    let is = c.place-at.ensures.is ∙ ap (λ (w : List ℕ). place (same_name w) (names s)) c.as_slice.ensures in
     let to = λ (n : Names). names n ≡ with_new same_name (names s) (spelled x) in (
       is,
       elim c.if-at-self.branch [

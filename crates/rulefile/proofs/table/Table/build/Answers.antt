@@ -12,8 +12,8 @@ pub loop-line-init : goal.loop-line-init
 loop-line-init c =
     goes_none _ c.new-table.result c.new-table.ensures.names c.new-table.ensures.terminals c.new-table.ensures.rules
 
-pub returns-in-err-add : goal.returns-in-err-add
-returns-in-err-add c =
+pub returns-in_err-add : goal.returns-in_err-add
+returns-in_err-add c =
     let first = c.args.first.now in
     let left = read (map (row_of first) (parts 10 c.in-Some.behind.now)) in
     let e = ap (λ (ps : List (List ℕ)). read (map (row_of first) ps)) c.in-Some.ensures.0
@@ -21,10 +21,10 @@ returns-in-err-add c =
     let t = c.loop-line.table in
     let all = read (map (row_of first) (parts 10 c.args.lines.now)) in
     let g = subst (λ (ls : List Line). Goes all t ls) e c.loop-line.invariant in
-    rw c.from-residual.ensures (goes_full _ t c.add.new.self (line c.in-Ok.row) left g c.in-err-add.ensures)
+    rw c.from_residual.ensures (goes_full _ t c.add.new.self (line c.in-Ok.row) left g c.in_err-add.ensures)
 
-pub loop-line-preserved-in-ok-add : goal.loop-line-preserved-in-ok-add
-loop-line-preserved-in-ok-add c =
+pub loop-line-preserved-in_ok-add : goal.loop-line-preserved-in_ok-add
+loop-line-preserved-in_ok-add c =
     let first = c.args.first.now in
     let left = read (map (row_of first) (parts 10 c.in-Some.behind.now)) in
     let e = ap (λ (ps : List (List ℕ)). read (map (row_of first) ps)) c.in-Some.ensures.0
@@ -32,4 +32,4 @@ loop-line-preserved-in-ok-add c =
     let t = c.loop-line.table in
     let all = read (map (row_of first) (parts 10 c.args.lines.now)) in
     let g = subst (λ (ls : List Line). Goes all t ls) e c.loop-line.invariant in
-    goes_more _ t c.add.new.self (line c.in-Ok.row) left _ g c.in-ok-add.ensures
+    goes_more _ t c.add.new.self (line c.in-Ok.row) left _ g c.in_ok-add.ensures

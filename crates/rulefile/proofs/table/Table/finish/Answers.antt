@@ -10,10 +10,10 @@ returns-in-Some c =
     (within-limits t (omega (arith, c.if-self-eq0.false)) (omega (arith, c.if-self-eq0-2.false)) (omega (arith, c.if-self-eq0-3.false)))
     c.in-Some.ensures
 
-pub invariant-of-result : goal.invariant-of-result
-invariant-of-result c = (
+pub invariant_of-result : goal.invariant_of-result
+invariant_of-result c = (
   (omega (arith, c.if-self-eq0.false), omega (arith, c.if-self-eq0-2.false), omega (arith, c.if-self-eq0-3.false)),
-  (c.requires, (all-ordered 2 (rules c.args.self.rules) (sym c.in-default.ensures), tt)),
+  (c.requires, (all-ordered 2 (rules c.args.self.rules) (sym c.in_default.ensures), tt)),
 )
 
 pub returns : goal.returns
@@ -21,4 +21,4 @@ returns c =
     let t = c.args.self in
     limited-is t None
     (within-limits t (omega (arith, c.if-self-eq0.false)) (omega (arith, c.if-self-eq0-2.false)) (omega (arith, c.if-self-eq0-3.false)))
-    c.in-default.ensures
+    c.in_default.ensures

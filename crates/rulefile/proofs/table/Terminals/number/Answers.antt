@@ -18,8 +18,8 @@ returns-then-self-eq32 c =
     (omega (arith, c.place-at.ensures.is, c.if-at-self.true)) in
     omega (arith, f, c.if-self-eq32.true)
 
-pub invariant-of-self : goal.invariant-of-self
-invariant-of-self c =
+pub invariant_of-self : goal.invariant_of-self
+invariant_of-self c =
     let s = c.args.self.now in
     let l = length-listed denoted s.count s.list (omega arith) in
     let p = distinct_push alike (terminals s) (denoted c.args.terminal) s.once

@@ -6,6 +6,6 @@ use Rattle.rulefile.proofs.terminal.Terminal.is_word.Goals as goal
 
 pub returns-in-Word : goal.returns-in-Word
 returns-in-Word c =
-    let e = same-is c.as-slice.result.now c.args.bytes.now c.eq.result c.eq.ensures in
-    let f = ap (λ (w : List ℕ). bytes_eq w c.args.bytes.now) c.as-slice.ensures in
+    let e = same-is c.as_slice.result.now c.args.bytes.now c.eq.result c.eq.ensures in
+    let f = ap (λ (w : List ℕ). bytes_eq w c.args.bytes.now) c.as_slice.ensures in
     rw c.in-Word.is (e ∙ f)

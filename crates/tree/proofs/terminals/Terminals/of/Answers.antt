@@ -4,16 +4,16 @@ use Rattle.tree.specs.Pieces.{total}
 use Rattle.tree.proofs.Naming.{blank, total-next, named_more, named_none, named_all}
 use Rattle.tree.proofs.terminals.Terminals.of.Goals as goal
 
-pub slice-bounds-terminal-end : goal.slice-bounds-terminal-end
-slice-bounds-terminal-end g c =
+pub slice_bounds-terminal-end : goal.slice_bounds-terminal-end
+slice_bounds-terminal-end g c =
     let t = total-next (g.G.Grammar.model c.args.grammar.now) c.args.contents.now.bytes.now
     c.args.contents.now.pieces.now c.loop-i.i c.loop-i.start c.loop-i-test.true in
     search rules
 
-pub returns-in-default : goal.returns-in-default
-returns-in-default g c = (
+pub returns-in_default : goal.returns-in_default
+returns-in_default g c = (
   named_none (g.G.Grammar.model c.args.grammar.now) c.args.contents.now.bytes.now c.args.contents.now.pieces.now
-      c.loop-i.i c.loop-i.start c.loop-i-test.true c.loop-i.list _ c.in-default.ensures c.loop-i.invariant.2,
+      c.loop-i.i c.loop-i.start c.loop-i-test.true c.loop-i.list _ c.in_default.ensures c.loop-i.invariant.2,
   refl,
 )
 

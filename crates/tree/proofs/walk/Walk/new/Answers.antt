@@ -7,14 +7,14 @@ use Rattle.tree.proofs.walk.Walk.new.Goals as goal
 pub returns-then-nodes-eq0 : goal.returns-then-nodes-eq0
 returns-then-nodes-eq0 g c = record { over = tt; top = (refl, no_nodes _ _ c.args.nodes.now c.if-nodes-eq0.true) }
 
-pub returns-in-default : goal.returns-in-default
-returns-in-default g c =
+pub returns-in_default : goal.returns-in_default
+returns-in_default g c =
     record {
       over = tt;
       top = (
         refl,
         no_top (g.G.Grammar.model c.args.grammar.now) _ c.args.nodes.now _ (omega arith)
-            c.in-default.ensures,
+            c.in_default.ensures,
       );
     }
 

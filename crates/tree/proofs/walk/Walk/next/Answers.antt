@@ -7,22 +7,22 @@ use Rattle.tree.specs.Walks.{pending, rules_left, terminals_left, waiting_slots}
 use Rattle.tree.proofs.Walking.{at_end, too_high, at_other, same_on, still_on, first_slot}
 use Rattle.tree.proofs.walk.Walk.next.Goals as goal
 
-pub returns-in-default : goal.returns-in-default
-returns-in-default g c =
+pub returns-in_default : goal.returns-in_default
+returns-in_default g c =
     let w = c.args.self.now in
-    let opened = c.in-default.ensures in
+    let opened = c.in_default.ensures in
     record {
       same = opened.still.same;
       next = at_end _ c.args.column w c.open.new.self opened.still _ c.end.result opened.slots c.end.ensures;
     }
 
-pub returns-in-err-keep : goal.returns-in-err-keep
-returns-in-err-keep g c =
-    let p = err_from_is_err_and c.from-residual.result c.from-residual.ensures.1 in
+pub returns-in_err-keep : goal.returns-in_err-keep
+returns-in_err-keep g c =
+    let p = err_from_is_err_and c.from_residual.result c.from_residual.ensures.1 in
     let w = c.args.self.now in
     let v = c.open.new.self in
     let opened = c.in-Some.ensures in
-    let keep = c.in-err-keep.ensures in
+    let keep = c.in_err-keep.ensures in
     let first
     = first_slot (pending w c.args.column) (frame_slots c.in-Some.frame) (rest_slots c.split-rest.result.1)
     (waiting_slots v) _ opened.slots c.split-rest.ensures in
@@ -32,18 +32,18 @@ returns-in-err-keep g c =
       next = (keep.slots.0, too_high _ c.args.column w v opened.still _ _ first keep.slots.1);
     }
 
-pub returns-in-err-cover : goal.returns-in-err-cover
-returns-in-err-cover g c =
-    let p = err_from_is_err_and c.from-residual-in-err-cover.result c.from-residual-in-err-cover.ensures.1 in
+pub returns-in_err-cover : goal.returns-in_err-cover
+returns-in_err-cover g c =
+    let p = err_from_is_err_and c.from_residual-in_err-cover.result c.from_residual-in_err-cover.ensures.1 in
     let w = c.args.self.now in
     let v = c.open.new.self in
     let u = c.keep.new.self in
     let opened = c.in-Some.ensures in
-    let cover = c.in-err-cover.ensures in
+    let cover = c.in_err-cover.ensures in
     let first
     = first_slot (pending w c.args.column) (frame_slots c.in-Some.frame) (rest_slots c.split-rest.result.1)
     (waiting_slots v) _ opened.slots c.split-rest.ensures in
-    let still = still_on w v u opened.still c.in-ok-keep.ensures.still in
+    let still = still_on w v u opened.still c.in_ok-keep.ensures.still in
     let model : g.G.Grammar.model u.grammar.now ≡ g.G.Grammar.model w.grammar.now
     = ap (λ (r : Bor g.row.G.Denot). g.G.Grammar.model r.now) still.same.grammar in
     let blocked

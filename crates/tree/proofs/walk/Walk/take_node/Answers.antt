@@ -13,8 +13,8 @@ returns-then-self g c =
       takes = (refl, λ r rs rule e known left. no_rule w.nodes.now w.node r rs c.if-self.true e);
     }
 
-pub returns-in-default : goal.returns-in-default
-returns-in-default g c =
+pub returns-in_default : goal.returns-in_default
+returns-in_default g c =
     let w = c.args.self.now in
     let G = g.G.Grammar.model w.grammar.now in
     let here : w.node < length w.nodes.now = omega arith in
@@ -22,7 +22,7 @@ returns-in-default g c =
       same = record { grammar = refl; nodes = refl; terminals = refl };
       waiting = refl;
       takes =
-          (refl, unknown-rule G w.nodes.now (terminals_left w) w.node c.args.left _ here c.in-default.ensures);
+          (refl, unknown-rule G w.nodes.now (terminals_left w) w.node c.args.left _ here c.in_default.ensures);
     }
 
 pub returns-then-rule-left : goal.returns-then-rule-left
