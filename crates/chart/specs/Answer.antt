@@ -1,6 +1,6 @@
 -- What a read of tokens answers.
 --   unfit      the first reason to refuse before anything is read: no such symbol, no tokens, too few nodes, too small a chart
---   cell_place   where a token begins
+--   place_of   where a token begins
 --   Read       the first reading, its nodes in front and all behind them as it was; or that there is no reading, nothing changed,
 --              and the place of the last token p with p = 0 or a reading of the first p tokens
 --   Answered   the refusal, nothing changed; or what is read
@@ -27,15 +27,15 @@ unfit G symbol count nodes cells =
     (cond (nat_lt cells (tri (count + 1) * G.nonterminals)) (Some (ShortMemory Chart)) None)))
     (Some GrammarMismatch)
 
-abbrev pub cell_place : Token → Position
-cell_place t = record { line = t.line; column = t.column }
+abbrev pub place_of : Token → Position
+place_of t = record { line = t.line; column = t.column }
 
 abbrev pub Read : Model → List Token → ℕ → List Node → List Node → Result ℕ Fault → Type 0
 Read G ts A old new (Ok count) =
     (t : Tree) × (ns : List Node) × FirstReading G ts A t × Holds G ns t × (count ≡ length ns) × (new ≡ ns ++ drop count old)
 Read G ts A old new (Err f) =
     ((t : Tree) → Reading G ts A t → ⊥)
-    × ((p : ℕ) × (at : Token) × Reach G ts A (length ts) p × (slice_get ts p ≡ Some at) × (f ≡ NoReading (cell_place at))) × (new ≡ old)
+    × ((p : ℕ) × (at : Token) × Reach G ts A (length ts) p × (slice_get ts p ≡ Some at) × (f ≡ NoReading (place_of at))) × (new ≡ old)
 
 -- by the reason to refuse, if there is one
 abbrev pub Judged : Option Fault → Model → List Token → ℕ → List Node → List Node → Result ℕ Fault → Type 0

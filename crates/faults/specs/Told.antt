@@ -3,7 +3,6 @@
 --   told   the same for each fault, case by case
 --   shown  a place as line and column, 0 for what it lacks
 use Rattle.std.specs.Prelude.{ℕ}
-use Rattle.faults.specs.declared.fault.Memory.{Memory}
 use Rattle.faults.specs.declared.fault.Layer.{Layer}
 use Rattle.faults.specs.declared.fault.Layer.TheVariants.{RuleFile, Policy, Galley, Text, Chart, Layout, Output}
 use Rattle.faults.specs.declared.fault.Position.{Position}

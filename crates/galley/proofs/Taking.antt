@@ -14,7 +14,7 @@ use Rattle.chart.specs.Answer.{unfit, Judged}
 use Rattle.chart.specs.Nodes as nodes
 use Rattle.galley.specs.declared.held.Store.{Store}
 use Rattle.galley.specs.declared.held.Held.{Held}
-use Rattle.galley.specs.Stores.{front, room, Fits, Sound}
+use Rattle.galley.specs.Stores.{front, room, Fits, Sound, OneTree}
 use Rattle.galley.specs.Loads.{byte_count, bytes_of, record_of, records_of, InText, Inside}
 use Rattle.galley.specs.declared.galley.Galley.{Galley}
 use Rattle.galley.specs.Reads.{FirstHeld, Read, Holds, Took, short, barred, Settled}
@@ -64,15 +64,19 @@ longest_records : (text : List ℕ) (ts : List Token) → Inside text ts → lon
 longest_records text [] all = omega arith
 longest_records text (t ∷ ts) all = let e = longest_records text ts all.1 in omega (arith, all.0.0)
 
-sound : (G : Model) (A : ℕ) (text : List ℕ) (ts : List Token) (k : Held) → Inside text ts → length ts ≤ 128 → Fits k.nodes
-    → FirstHeld G A ts (front k.nodes)
+sound : (text : List ℕ) (ts : List Token) (k : Held) → Inside text ts → length ts ≤ 128 → Fits k.nodes
     → k.bytes.used ≡ byte_count ts → byte_count ts ≤ room k.bytes
     → k.pieces.used ≡ length ts → length ts ≤ room k.pieces → front k.pieces ≡ records_of ts → Sound k
-sound G A text ts k inside few nodes first bytes byte_fits pieces piece-fits held = record {
+sound text ts k inside few nodes bytes byte_fits pieces piece-fits held = record {
   fit = (omega arith, omega arith, nodes);
   few = omega arith;
   short = rw held (longest_records text ts inside);
   whole = rw held (total_records ts ∙ sym bytes);
+}
+
+-- the nodes of the first reading of the tokens are one tree over them
+grown : (G : Model) (A : ℕ) (ts : List Token) (k : Held) → FirstHeld G A ts (front k.nodes) → k.pieces.used ≡ length ts → OneTree k
+grown G A ts k first pieces = record {
   tree = (first_shaped G A ts (front k.nodes) first).0;
   over = (first_shaped G A ts (front k.nodes) first).1 ∙ sym pieces;
 }
@@ -89,7 +93,7 @@ pub took_over : (G : Model) (symbol cells : ℕ) (text : List ℕ) (ts list : Li
     → Read (unfit G symbol (length ts) (room h.nodes) cells) G symbol ts h.nodes (Ok tt) k.nodes
     → k.bytes.used ≡ byte_count list → room k.bytes ≡ room h.bytes → front k.bytes ≡ bytes_of text list
     → k.pieces.used ≡ length list → room k.pieces ≡ room h.pieces → front k.pieces ≡ records_of list
-    → Took (short G symbol h ts cells) G symbol text ts h (Ok tt) k × Sound k
+    → Took (short G symbol h ts cells) G symbol text ts h (Ok tt) k × Sound k × OneTree k
 took_over G symbol cells text ts list h k same inside few bytes pieces read used broom bfront pused proom pfront =
     let fits = read_fits (unfit G symbol (length ts) (room h.nodes) cells) G symbol ts h.nodes k.nodes read in
     let b : byte_count ts ≤ room h.bytes = subst (λ (us : List Token). byte_count us ≤ room h.bytes) same bytes in
@@ -106,7 +110,8 @@ took_over G symbol cells text ts list h k same inside few bytes pieces read used
         tree = fits.2;
         node_room = fits.1;
       }),
-      sound G symbol text ts k inside few fits.0 fits.2 bu (omega arith) pu (omega arith) pf,
+      sound text ts k inside few fits.0 bu (omega arith) pu (omega arith) pf,
+      grown G symbol ts k fits.2 pu,
     )
 
 -- where the tokens were not read, nothing is taken over
@@ -117,18 +122,18 @@ refused_by (Some e) G A text ts h t f (is, same) = ((is, ap (λ (u : Store Node)
 refused_by None G A text ts h t f (at, same) = ((at, ap (λ (u : Store Node). record { bytes = h.bytes; pieces = h.pieces; nodes = u }) same), same)
 
 pub not_taken : (G : Model) (symbol cells : ℕ) (text : List ℕ) (ts list : List Token) (h : Held) (t : Store Node) (f : Fault) → list ≡ ts
-    → Sound h → byte_count list ≤ room h.bytes → length list ≤ room h.pieces
+    → Sound h → OneTree h → byte_count list ≤ room h.bytes → length list ≤ room h.pieces
     → Read (unfit G symbol (length ts) (room h.nodes) cells) G symbol ts h.nodes (Err f) t
     → Took (short G symbol h ts cells) G symbol text ts h (Err f) (record { bytes = h.bytes; pieces = h.pieces; nodes = t })
-    × Sound (record { bytes = h.bytes; pieces = h.pieces; nodes = t })
-not_taken G symbol cells text ts list h t f same own bytes pieces read =
+    × Sound (record { bytes = h.bytes; pieces = h.pieces; nodes = t }) × OneTree (record { bytes = h.bytes; pieces = h.pieces; nodes = t })
+not_taken G symbol cells text ts list h t f same own whole bytes pieces read =
     let b : byte_count ts ≤ room h.bytes = subst (λ (us : List Token). byte_count us ≤ room h.bytes) same bytes in
     let p : length ts ≤ room h.pieces = subst (λ (us : List Token). length us ≤ room h.pieces) same pieces in
     let a : ltb (room h.bytes) (byte_count ts) ≡ false = le-ltb (room h.bytes) (byte_count ts) b in
     let d : ltb (room h.pieces) (length ts) ≡ false = le-ltb (room h.pieces) (length ts) p in
     let r = refused_by (unfit G symbol (length ts) (room h.nodes) cells) G symbol text ts h t f read in
     let k = ap (λ (u : Store Node). record { bytes = h.bytes; pieces = h.pieces; nodes = u }) r.1 in
-    (rw (a, d) r.0, subst Sound (sym k) own)
+    (rw (a, d) r.0, subst Sound (sym k) own, subst OneTree (sym k) whole)
 
 -- of the text that a galley took over
 settled_by : (o : Option Fault) (G : Model) (A : ℕ) (text : List ℕ) (ts : List Token) (x y : Galley) (r : Result Unit Fault)

@@ -6,6 +6,4 @@ pub mod Stores
 pub mod Views
 pub mod Writes
 pub mod Parts
-pub mod Moves
 pub mod Tellings
-pub mod Exchanges

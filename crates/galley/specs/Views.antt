@@ -2,7 +2,7 @@
 --   Unchanged   its number, all that its memories hold, and whether it is laid, are as they were
 --   Empty       a new galley with that number over these memories
 use Rattle.std.specs.Prelude.{◌≡◌, ℕ, List, None}
-use Rattle.std.specs.Borrow.{Bor}
+use Rattle.std.specs.Borrow.{MutBor}
 use Rattle.tree.specs.declared.node.Node.{Node}
 use Rattle.tree.specs.declared.piece.PieceRecord.{PieceRecord}
 use Rattle.galley.specs.declared.galley.Galley.{Galley}
@@ -13,7 +13,7 @@ pub record Unchanged (x y : Galley) : Type 0 where
   pub laid : y.laid ≡ x.laid
 
 -- nothing is held, in these memories
-pub record Empty (number : ℕ) (bytes : Bor (List ℕ)) (pieces : Bor (List PieceRecord)) (nodes : Bor (List Node)) (x : Galley) : Type 0
+pub record Empty (number : ℕ) (bytes : MutBor (List ℕ)) (pieces : MutBor (List PieceRecord)) (nodes : MutBor (List Node)) (x : Galley) : Type 0
   where
     pub is : x.number ≡ number
     pub byte_memory : x.held.bytes.memory ≡ bytes

@@ -1,7 +1,7 @@
 ghost use Rattle.std.specs.Prelude.{◌≡◌, ◌≤◌, length, replicate};
 ghost use Rattle.text.specs.Tokens.{listed};
 ghost use Rattle.galley.specs.Loads.{Inside};
-ghost use Rattle.galley.specs.Stores.{Sound};
+ghost use Rattle.galley.specs.Stores.{Sound, OneTree};
 ghost use Rattle.galley.specs.Reads.{Reads, TakesOver, ReadsIn};
 
 use crate::galley::Galley;
@@ -42,9 +42,11 @@ impl Held<'_> {
         cells: &mut [u64],
     ) -> Result<(), Fault>
         requires own { Sound self.old }
+        requires tree { OneTree self.old }
         requires inside { Inside text.now (listed tokens.now) }
         ensures took { TakesOver (G.model g.now) symbol (length cells.old) text.now (listed tokens.now) self.old result self.new }
         ensures sound { Sound self.new }
+        ensures tree { OneTree self.new }
     {
         let list = tokens.as_slice();
         if self.bytes.memory.len() < count_bytes(list) {

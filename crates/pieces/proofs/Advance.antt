@@ -1,5 +1,5 @@
 -- Every piece takes the reader at least one byte further.
-use Rattle.std.proofs.Common.{◌≡◌, ℕ, ◌+◌, ◌≤◌, List, [], ◌∷◌, ◌++◌, length, ap, arith}
+use Rattle.std.proofs.Common.{ℕ, ◌+◌, ◌≤◌, List, length, ap, arith}
 use Rattle.pieces.specs.Pieces.{Place, Found, Reads}
 use Rattle.pieces.proofs.Unique.{some_byte}
 

@@ -1,12 +1,12 @@
 -- The piece at the front of some bytes, by what the first byte begins.
-use Rattle.std.proofs.Common.{◌≡◌, ℕ, ◌-◌, List, [], ◌∷◌, ◌++◌, length, get_or, take, drop, Some, None, Option, sym, refl, ap, ◌∙◌, subst, arith}
+use Rattle.std.proofs.Common.{◌≡◌, ℕ, ◌-◌, List, [], ◌∷◌, length, get_or, take, drop, Some, None, Option, sym, subst, arith}
 use Rattle.std.specs.List.{prefix_len}
 use Rattle.std.proofs.lemmas.List.{take_rest}
 use Rattle.pieces.specs.declared.piece.Class.{Class}
 use Rattle.pieces.specs.declared.piece.Class.TheVariants as class
 use Rattle.pieces.specs.declared.lexeme.Lexeme.{Lexeme}
 use Rattle.pieces.specs.declared.kind.Kind.TheVariants.{Letter, Digit, Quote}
-use Rattle.pieces.specs.Kinds.{kind_of, class_for, digit, goes_on}
+use Rattle.pieces.specs.Kinds.{kind_of, digit, goes_on}
 use Rattle.pieces.specs.Pieces.{Forms}
 use Rattle.pieces.specs.Lexeme.{Fronts, Front, Quoted}
 use Rattle.pieces.proofs.Bytes.{begins_letter, begins_digit, begins_quote, first_tells}

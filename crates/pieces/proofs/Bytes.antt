@@ -1,11 +1,10 @@
 -- What a byte begins, and what it then is.
-use Rattle.std.proofs.Common.{◌≡◌, ℕ, Bool, true, false, List, [], ◌∷◌, ◌++◌, Some, refl, ap, ◌∙◌, arith}
+use Rattle.std.proofs.Common.{◌≡◌, ℕ, true, List, [], ◌∷◌, ◌++◌, Some, refl, ap, arith}
 use Rattle.std.proofs.lemmas.Bool.Decides.{nat_tests}
 use Rattle.pieces.specs.declared.piece.Class.{Class}
 use Rattle.pieces.specs.declared.piece.Class.TheVariants as class
-use Rattle.pieces.specs.declared.kind.Kind.{Kind}
-use Rattle.pieces.specs.declared.kind.Kind.TheVariants.{LineEnd, Separator, Letter, Digit, Quote, Sign, Other}
-use Rattle.pieces.specs.Kinds.{kind_of, class_for, letter, digit, sign, goes_on, quotable}
+use Rattle.pieces.specs.declared.kind.Kind.TheVariants.{LineEnd, Separator, Letter, Digit, Quote, Sign}
+use Rattle.pieces.specs.Kinds.{kind_of, class_for, letter, digit, sign, goes_on}
 use Rattle.pieces.specs.Pieces.{Forms}
 
 pub begins_line : (b : ℕ) → kind_of b ≡ LineEnd → b ≡ 10

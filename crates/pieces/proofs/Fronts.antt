@@ -1,11 +1,10 @@
 -- Longest runs and quotes at the front of some bytes.
-use Rattle.std.proofs.Common.{◌≡◌, ℕ, suc, ◌+◌, ◌<◌, ◌≤◌, Bool, true, false, List, [], ◌∷◌, ◌++◌, length, get_or, take, drop, sym, refl, ap, ◌∙◌, add-one, one-add, arith}
+use Rattle.std.proofs.Common.{◌≡◌, ℕ, suc, Bool, true, false, List, [], ◌∷◌, ◌++◌, take, drop, refl, one-add, arith}
 use Rattle.std.specs.List.{prefix_len}
-use Rattle.std.proofs.lemmas.List.{take-append-drop, take_more, drop_more, append_assoc, length-append, length-drop}
 use Rattle.std.proofs.lemmas.List.Sums.{prefix_len-le-length}
-use Rattle.pieces.specs.declared.piece.Class.TheVariants.{Name, Number, Quote, Sign}
-use Rattle.pieces.specs.Kinds.{letter, digit, goes_on, quotable}
-use Rattle.pieces.specs.Pieces.{Passes, Stops, Begins, Forms}
+use Rattle.pieces.specs.declared.piece.Class.TheVariants.{Name, Number}
+use Rattle.pieces.specs.Kinds.{letter, digit, goes_on}
+use Rattle.pieces.specs.Pieces.{Passes, Stops}
 use Rattle.pieces.specs.Lexeme.{Fronts}
 use Rattle.pieces.proofs.Bytes.{letter-goes-on}
 

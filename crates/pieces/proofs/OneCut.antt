@@ -1,7 +1,6 @@
 -- Two readings of a text up to where nothing more can be read are the same.
-use Rattle.std.proofs.Common.{◌≡◌, ℕ, List, [], ◌∷◌, ◌++◌, length, sym, refl, ap, ◌∙◌, subst, arith}
-use Rattle.pieces.specs.declared.piece.Class.{Class}
-use Rattle.pieces.specs.Pieces.{Place, Found, Forms, Reads, NoPiece, Cutting, Cut, start, right, below}
+use Rattle.std.proofs.Common.{◌≡◌, ℕ, List, [], ◌∷◌, length, sym, refl, ◌∙◌, subst, arith}
+use Rattle.pieces.specs.Pieces.{Place, Found, Reads, NoPiece, Cutting, Cut, right}
 use Rattle.pieces.proofs.Unique.{Ends, same-piece, no_blank, no_line, no_space, no_piece}
 
 pub record Same (ps : List Found) (q : Place) (t : List ℕ) (qs : List Found) (r : Place) (u : List ℕ) : Type 0 where

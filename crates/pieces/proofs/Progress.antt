@@ -1,11 +1,11 @@
 -- Reading on along a text.
-use Rattle.std.proofs.Common.{◌≡◌, ℕ, ◌+◌, ◌<◌, ◌≤◌, List, [], ◌∷◌, ◌++◌, length, get_or, drop, Some, None, sym, refl, ap, ◌∙◌, subst, arith}
+use Rattle.std.proofs.Common.{◌≡◌, ℕ, ◌+◌, ◌<◌, ◌≤◌, List, [], ◌∷◌, ◌++◌, length, get_or, drop, Some, None, refl, ap, ◌∙◌, arith}
 use Rattle.std.proofs.lemmas.List.{drop_more, drop_all}
 use Rattle.faults.specs.declared.fault.Position.{Position}
 use Rattle.pieces.specs.declared.kind.Kind.{Kind}
 use Rattle.pieces.specs.declared.kind.Kind.TheVariants.{LineEnd, Separator, Letter, Digit, Quote, Sign, Other}
 use Rattle.pieces.specs.Kinds.{kind_of}
-use Rattle.pieces.specs.Pieces.{Place, Found, Reads, right, below}
+use Rattle.pieces.specs.Pieces.{Place, Found, Reads}
 use Rattle.pieces.specs.Reader.{position_behind, Pause}
 use Rattle.pieces.proofs.Bytes.{begins_line, begins_space}
 

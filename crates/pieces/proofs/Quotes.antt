@@ -1,8 +1,7 @@
 -- Quotes at the front of some bytes.
-use Rattle.std.proofs.Common.{◌≡◌, ℕ, suc, ◌+◌, ◌<◌, ◌≤◌, Bool, true, false, List, [], ◌∷◌, ◌++◌, length, get_or, take, drop, sym, refl, ap, ◌∙◌, arith}
+use Rattle.std.proofs.Common.{◌≡◌, ℕ, suc, ◌+◌, ◌<◌, List, [], ◌∷◌, ◌++◌, length, get_or, take, drop, sym, refl, ap, ◌∙◌, arith}
 use Rattle.std.specs.List.{prefix_len}
-use Rattle.std.proofs.lemmas.List.{take-append-drop, take_more, drop_more, append_assoc, length-append, length-drop, get_or-drop}
-use Rattle.std.proofs.lemmas.List.Sums.{prefix_len-le-length}
+use Rattle.std.proofs.lemmas.List.{take-append-drop, take_more, append_assoc, length-drop, get_or-drop}
 use Rattle.pieces.specs.declared.piece.Class.TheVariants.{Quote}
 use Rattle.pieces.specs.Kinds.{quotable}
 use Rattle.pieces.specs.Pieces.{Passes, Stops, Forms}

@@ -1,9 +1,9 @@
 -- One step of the reader, from what it found.
-use Rattle.std.proofs.Common.{◌≡◌, ℕ, ◌+◌, ◌-◌, ◌<◌, ◌≤◌, List, [], ◌∷◌, ◌++◌, length, get_or, take, drop, Some, None, sym, refl, ap, ◌∙◌, subst, arith}
+use Rattle.std.proofs.Common.{◌≡◌, ℕ, ◌+◌, ◌-◌, ◌<◌, List, [], ◌∷◌, length, get_or, take, drop, None, sym, ap, ◌∙◌, subst}
 use Rattle.std.proofs.lemmas.List.{take-append-drop, drop-drop, drop_more, take_rest, length-take-le}
 use Rattle.faults.specs.declared.fault.Position.{Position}
 use Rattle.pieces.specs.declared.piece.Class.{Class}
-use Rattle.pieces.specs.Pieces.{Place, Found, Reads, NoPiece, Forms, right}
+use Rattle.pieces.specs.Pieces.{Place, Found, Reads, NoPiece, right}
 use Rattle.pieces.specs.Lexeme.{Front, Fronts}
 use Rattle.pieces.specs.Reader.{Pause}
 use Rattle.pieces.proofs.Progress.{placed, join}

@@ -1,10 +1,10 @@
 -- A text is cut in one way only.
-use Rattle.std.proofs.Common.{◌≡◌, ℕ, ◌+◌, List, [], ◌∷◌, ◌++◌, length, Some, None, sym, refl, ap, ◌∙◌, subst, arith}
+use Rattle.std.proofs.Common.{◌≡◌, ℕ, List, [], ◌∷◌, ◌++◌, None, sym, refl, ap, ◌∙◌, subst, arith}
 use Rattle.std.proofs.lemmas.List.{append_assoc}
 use Rattle.pieces.specs.declared.piece.Class.{Class}
 use Rattle.pieces.specs.declared.piece.Class.TheVariants as class
 use Rattle.pieces.specs.Kinds.{kind_of, class_for, digit, goes_on, quotable}
-use Rattle.pieces.specs.Pieces.{Place, Found, Forms, Reads, NoPiece, Cutting, Cut, start, right, below}
+use Rattle.pieces.specs.Pieces.{Forms, NoPiece}
 use Rattle.pieces.proofs.Bytes.{first_tells}
 use Rattle.pieces.proofs.Fronts.{run_one}
 

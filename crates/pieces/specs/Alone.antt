@@ -5,7 +5,7 @@
 --   one_quote    a quote byte, what a quote may hold, and a quote byte
 --   one_sign     one sign byte
 --   one_piece    one of these
-use Rattle.std.specs.Prelude.{ℕ, Bool, true, false, cond, ◌&&◌, ◌||◌, List, [], ◌∷◌, ◌==◌}
+use Rattle.std.specs.Prelude.{ℕ, Bool, true, false, ◌&&◌, ◌||◌, List, [], ◌∷◌, ◌==◌}
 use Rattle.pieces.specs.Kinds.{letter, digit, sign, goes_on, quotable}
 
 abbrev pub every : (ℕ → Bool) → List ℕ → Bool

@@ -1,7 +1,7 @@
 -- The piece at the front of some bytes.
 --   Front    the class and length of the piece that begins them, or none where no piece does
 --   Quoted   the quote that these bytes go on with behind its opening byte, or none where it is not closed
-use Rattle.std.specs.Prelude.{◌≡◌, ℕ, ◌<◌, ◌≤◌, List, [], ◌∷◌, ◌++◌, length, take, drop, Some, None, Option}
+use Rattle.std.specs.Prelude.{◌≡◌, ℕ, ◌<◌, ◌≤◌, List, ◌∷◌, ◌++◌, length, take, drop, Some, None, Option}
 use Rattle.pieces.specs.declared.piece.Class.{Class}
 use Rattle.pieces.specs.declared.piece.Class.TheVariants.{Quote}
 use Rattle.pieces.specs.declared.lexeme.Lexeme.{Lexeme}

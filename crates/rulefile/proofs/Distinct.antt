@@ -1,9 +1,9 @@
 -- Lists without two elements alike.
 use Rattle.std.proofs.Common.{◌≡◌, ℕ, suc, ◌+◌, ◌≤◌, Bool, true, false, cond, not, List, [], ◌∷◌, ◌++◌, length, refl, arith}
 use Rattle.std.specs.List.{list_all}
-use Rattle.std.specs.Map.Invariant.{is-distinct}
 use Rattle.std.proofs.lemmas.Bool.{and_from, and_parts}
 use Rattle.std.proofs.lemmas.List.Sums.{prefix_len-le-length}
+use Rattle.rulefile.specs.Denoted.{is_distinct}
 use Rattle.rulefile.specs.Places.{place}
 
 pub all_pass_push : {Y : Type 0} (p : Y → Bool) (ys : List Y) (y : Y) → list_all p ys ≡ true → p y ≡ true → list_all p (ys ++ y ∷ []) ≡ true
@@ -17,14 +17,14 @@ none_first : (b : Bool) (n m : ℕ) → n ≤ m → cond (not b) (1 + n) 0 ≡ s
 none_first true n m h e = absurd (omega (arith, e))
 none_first false n m h e = (refl, omega (arith, e))
 
-pub distinct_push : {Y : Type 0} (like : Y → Y → Bool) (ys : List Y) (y : Y) → is-distinct (λ a b. like b a) ys ≡ true
-    → place (like y) ys ≡ length ys → is-distinct (λ a b. like b a) (ys ++ y ∷ []) ≡ true
+pub distinct_push : {Y : Type 0} (like : Y → Y → Bool) (ys : List Y) (y : Y) → is_distinct (λ a b. like b a) ys ≡ true
+    → place (like y) ys ≡ length ys → is_distinct (λ a b. like b a) (ys ++ y ∷ []) ≡ true
 distinct_push like [] y h e = refl
 distinct_push {Y} like (z ∷ zs) y h e =
     let p : Y → Bool = λ b. not (like b z) in
     let d : Y → Y → Bool = λ a b. like b a in
-    let k = and_parts (list_all p zs) (is-distinct d zs) h in
+    let k = and_parts (list_all p zs) (is_distinct d zs) h in
     let s = none_first (like y z) (place (like y) zs) (length zs) (prefix_len-le-length (λ x. not (like y x)) zs) e in
-    and_from (list_all p (zs ++ y ∷ [])) (is-distinct d (zs ++ y ∷ []))
+    and_from (list_all p (zs ++ y ∷ [])) (is_distinct d (zs ++ y ∷ []))
     (all_pass_push p zs y k.0 s.0)
     (distinct_push like zs y k.1 s.1)

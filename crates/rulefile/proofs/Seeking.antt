@@ -1,15 +1,7 @@
 -- Looking for the first element that passes a test.
-use Rattle.std.proofs.Common.{◌≡◌, ℕ, ◌+◌, ◌<◌, ◌≤◌, Bool, true, false, cond, not, List, [], ◌∷◌, map, length, get_or, drop, Decides, sym, refl, ap, ◌∙◌, subst, arith, rules}
-use Rattle.std.specs.Str.{bytes_eq}
-use Rattle.std.specs.Cmp.Lexicographic.{Matches}
-use Rattle.std.proofs.lemmas.Slice.Eq.{slice_eq-Decides, bytes_eq-Decides}
+use Rattle.std.proofs.Common.{◌≡◌, ℕ, ◌+◌, ◌<◌, ◌≤◌, Bool, true, false, cond, not, List, [], ◌∷◌, map, length, get_or, drop, sym, refl, ap, ◌∙◌, subst, arith}
 use Rattle.std.proofs.lemmas.List.Sums.{prefix_len-drop_yes, prefix_len-drop_no, prefix_len-drop_all}
 use Rattle.rulefile.specs.Places.{place}
-use Rattle.std.proofs.lemmas.Bool.Decides.{Decides-eqb}
-
--- what `==` on bytes tells
-pub same-is : (xs ys : List ℕ) (r : Bool) → Matches (λ (a b : ℕ) (t : Bool). Decides t (a ≡ b)) xs ys r → r ≡ bytes_eq xs ys
-same-is xs ys r h = let d = slice_eq-Decides Decides-eqb xs ys r h in search (rules, bytes_eq-Decides)
 
 pub place_map : {X Y : Type 0} (f : X → Y) (test : Y → Bool) (xs : List X) → place test (map f xs) ≡ place (λ x. test (f x)) xs
 place_map f test [] = refl

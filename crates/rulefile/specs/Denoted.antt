@@ -1,10 +1,11 @@
 -- What a terminal of a rule file denotes.
---   denoted    it as a terminal of a grammar
---   alike      a test of a terminal: it is the same class, or the word of the same spelling
---   listed     the first of some terminals, as many as count, as terminals of a grammar
---   distinct   no two terminals are alike
-use Rattle.std.specs.Prelude.{ℕ, Bool, List, map, take, Some}
-use Rattle.std.specs.Map.Invariant.{is-distinct}
+--   denoted       it as a terminal of a grammar
+--   alike         a test of a terminal: it is the same class, or the word of the same spelling
+--   listed        the first of some terminals, as many as count, as terminals of a grammar
+--   is_distinct   no element is the same as one after it, by a test
+--   distinct      no two terminals are alike
+use Rattle.std.specs.Prelude.{ℕ, Bool, true, not, ◌&&◌, List, [], ◌∷◌, map, take, Some}
+use Rattle.std.specs.List.{list_all}
 use Rattle.pieces.specs.declared.piece.Class.TheVariants as class
 use Rattle.grammar.specs.Model as model
 use Rattle.rulefile.specs.declared.terminal.Terminal.{Terminal}
@@ -24,5 +25,9 @@ alike (model.word w) = model.spelled w
 abbrev pub listed : ℕ → List Terminal → List model.Terminal
 listed count list = map denoted (take count list)
 
+abbrev pub is_distinct : {X : Type 0} → (X → X → Bool) → List X → Bool
+is_distinct same [] = true
+is_distinct same (x ∷ xs) = list_all (λ y. not (same x y)) xs && is_distinct same xs
+
 abbrev pub distinct : List model.Terminal → Bool
-distinct ts = is-distinct (λ x y. alike y x) ts
+distinct ts = is_distinct (λ x y. alike y x) ts

@@ -3,7 +3,6 @@ use Rattle.std.specs.Prelude.{◌≡◌, ℕ, zero, suc, Bool, true, not, List, 
 use Rattle.std.proofs.Common.{sym, ap, subst, ◌∙◌, arith}
 use Rattle.std.specs.Option.{option_map}
 use Rattle.std.specs.List.{slice_get, list_all, AllByRecursion as All}
-use Rattle.std.specs.Map.Invariant.{is-distinct}
 use Rattle.std.proofs.lemmas.List.{length-take, length-take-le}
 use Rattle.std.proofs.lemmas.Bool.{and_parts, ltb-true, not-true, both_ways}
 use Rattle.grammar.specs.declared.rule.Symbol.{Symbol}
@@ -18,7 +17,7 @@ use Rattle.rulefile.specs.declared.terminal.Terminal.TheVariants.{Name, Number, 
 use Rattle.rulefile.specs.declared.loaded.LoadedGrammar.{LoadedGrammar}
 use Rattle.rulefile.specs.Bounds.{below, all_below, in_bounds, higher, items_ordered, ordered}
 use Rattle.rulefile.specs.Built.{model_of}
-use Rattle.rulefile.specs.Denoted.{denoted, alike}
+use Rattle.rulefile.specs.Denoted.{denoted, alike, is_distinct}
 use Rattle.rulefile.specs.Spelled.{spelled}
 use Rattle.rulefile.specs.Tables.{names, terminals, rules}
 use Rattle.rulefile.specs.Gets.{nth-map}
@@ -32,22 +31,22 @@ pass_at p (y ∷ ys) zero x h e = let q : y ≡ x = cc in subst (λ (v : _). p v
 pass_at p (y ∷ ys) (suc k) x h e = pass_at p ys k x (and_parts (p y) (list_all p ys) h).1 e
 
 -- a terminal is there once
-once : (ts : List model.Terminal) (j k : ℕ) (t : model.Terminal) → is-distinct (λ x y. alike y x) ts ≡ true
+once : (ts : List model.Terminal) (j k : ℕ) (t : model.Terminal) → is_distinct (λ x y. alike y x) ts ≡ true
     → slice_get ts j ≡ Some t → slice_get ts k ≡ Some t → j ≡ k
 once [] j k t d p q = let z : ◌≡◌ {A = ℕ} 0 1 = cc in absurd (omega arith)
 once (x ∷ ts) zero zero t d p q = refl
 once (x ∷ ts) zero (suc k) t d p q =
-    let h = and_parts (list_all (λ y. not (alike y x)) ts) (is-distinct (λ a b. alike b a) ts) d in
+    let h = and_parts (list_all (λ y. not (alike y x)) ts) (is_distinct (λ a b. alike b a) ts) d in
     let e : x ≡ t = cc in
     let n = not-true (alike t x) (pass_at (λ y. not (alike y x)) ts k t h.0 q) in
     absurd (both_ways (alike t x) n (subst (λ (v : model.Terminal). alike t v ≡ true) (sym e) (alike_itself t)))
 once (x ∷ ts) (suc j) zero t d p q =
-    let h = and_parts (list_all (λ y. not (alike y x)) ts) (is-distinct (λ a b. alike b a) ts) d in
+    let h = and_parts (list_all (λ y. not (alike y x)) ts) (is_distinct (λ a b. alike b a) ts) d in
     let e : x ≡ t = cc in
     let n = not-true (alike t x) (pass_at (λ y. not (alike y x)) ts j t h.0 p) in
     absurd (both_ways (alike t x) n (subst (λ (v : model.Terminal). alike t v ≡ true) (sym e) (alike_itself t)))
 once (x ∷ ts) (suc j) (suc k) t d p q =
-    let h = and_parts (list_all (λ y. not (alike y x)) ts) (is-distinct (λ a b. alike b a) ts) d in
+    let h = and_parts (list_all (λ y. not (alike y x)) ts) (is_distinct (λ a b. alike b a) ts) d in
     ap suc (once ts j k t h.1 p q)
 
 -- every terminal of a rule file is well formed

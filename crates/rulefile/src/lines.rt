@@ -1,5 +1,5 @@
 ghost use Rattle.std.specs.Prelude.{◌≡◌, ◌≤◌, map, length};
-ghost use Rattle.std.specs.Map.Invariant.{all_pass};
+ghost use Rattle.std.specs.List.{list_all};
 ghost use Rattle.rulefile.specs.Loaded.{allowed, same_fault, fails, line_with};
 ghost use Rattle.rulefile.specs.Parts.{parts};
 ghost use Rattle.rulefile.specs.Reading.{row_of};
@@ -15,7 +15,7 @@ fn is_allowed(byte: u8) -> bool
 
 // Whether a file has only allowed bytes.
 pub(crate) fn all_allowed(file: &[u8]) -> bool
-    ensures { result ≡ all_pass allowed file.now }
+    ensures { result ≡ list_all allowed file.now }
 {
     for byte in file {
         if !is_allowed(*byte) {

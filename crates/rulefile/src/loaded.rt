@@ -1,5 +1,5 @@
 ghost use Rattle.std.specs.Prelude.{◌≡◌, ◌≤◌, true};
-ghost use Rattle.std.specs.Map.Invariant.{all_pass};
+ghost use Rattle.std.specs.List.{list_all};
 ghost use Rattle.rulefile.specs.Bounds.{ordered};
 ghost use Rattle.rulefile.specs.Tables.{rules as rules_of, bounded as inside};
 
@@ -11,5 +11,5 @@ pub struct LoadedGrammar {
     pub(crate) table: Table,
     ghost some: { (1 ≤ table.names.count) × (1 ≤ table.terminals.count) × (1 ≤ table.rules.count) },
     ghost bounded: { inside table.names table.terminals table.rules ≡ true },
-    ghost in_order: { all_pass ordered (rules_of table.rules) ≡ true },
+    ghost in_order: { list_all ordered (rules_of table.rules) ≡ true },
 }

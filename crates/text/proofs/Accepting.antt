@@ -1,16 +1,13 @@
 -- The verdict on pieces that were noted and give no cause to refuse.
-use Rattle.std.proofs.Common.{◌≡◌, ℕ, ◌+◌, ◌≤◌, Bool, true, false, cond, ◌||◌, eqb, ltb, List, [], ◌∷◌, ◌++◌, length, take, is_some, Some, None, Option, sym, refl, ap, ◌∙◌, subst, arith}
-use Rattle.std.specs.Option.{option_map, option_to_list}
+use Rattle.std.proofs.Common.{◌≡◌, ℕ, ◌≤◌, false, ◌||◌, eqb, ltb, List, [], ◌∷◌, length, Some, None, Option, sym, refl, ap, ◌∙◌, arith}
+use Rattle.std.specs.Option.{option_to_list}
 use Rattle.std.proofs.lemmas.List.{take_all, length-append}
 use Rattle.std.proofs.lemmas.Bool.Decides.{nat_tests}
-use Rattle.faults.specs.declared.fault.Fault.TheVariants.{PieceOutOfBounds, PieceCount, NoTerminal}
 use Rattle.pieces.specs.Pieces.{Found}
-use Rattle.pieces.specs.Reader.{position}
 use Rattle.grammar.specs.Model.{Model, terminal_of}
 use Rattle.text.specs.declared.notes.Notes.{Notes}
-use Rattle.text.specs.declared.token.Token.{Token}
 use Rattle.text.specs.Tokens.{listed}
-use Rattle.text.specs.Verdict.{Verdict, accepted, refused, out_of_bounds, unknown, first_of, token_with, tokens_of, refused_at, judged}
+use Rattle.text.specs.Verdict.{accepted, out_of_bounds, unknown, first_of, token_with, tokens_of, judged}
 use Rattle.text.specs.Notes.{Noted, place_of}
 
 few : {X : Type 0} (o : Option X) → length (option_to_list o) ≤ 1

@@ -1,5 +1,5 @@
 -- The tokens of an accepted text lie within it.
-use Rattle.std.proofs.Common.{◌≡◌, ℕ, ◌+◌, ◌<◌, ◌≤◌, Bool, true, false, cond, ◌||◌, eqb, ltb, List, [], ◌∷◌, ◌++◌, length, Some, None, Option, sym, refl, ap, ◌∙◌, subst, inl, inr, arith}
+use Rattle.std.proofs.Common.{◌≡◌, ℕ, ◌+◌, ◌<◌, ◌≤◌, Bool, true, false, cond, ◌||◌, eqb, ltb, List, [], ◌∷◌, length, Some, None, Option, sym, ap, ◌∙◌, subst, inl, inr, arith}
 use Rattle.std.specs.Option.{option_map, option_to_list}
 use Rattle.std.specs.List.{AllByRecursion as All}
 use Rattle.std.proofs.ByRecursion.{All-append}
@@ -8,7 +8,7 @@ use Rattle.std.proofs.lemmas.Bool.Decides.{leb_tells, nat_tests}
 use Rattle.faults.specs.declared.fault.Fault.{Fault}
 use Rattle.faults.specs.declared.fault.Fault.TheVariants.{PieceOutOfBounds, PieceCount, NoTerminal}
 use Rattle.faults.specs.declared.fault.Position.{Position}
-use Rattle.pieces.specs.Pieces.{Place, Found, Reads, Cutting, Cut, start}
+use Rattle.pieces.specs.Pieces.{Place, Found, Reads, Cutting, Cut}
 use Rattle.grammar.specs.Model.{Model, terminal_of}
 use Rattle.text.specs.declared.token.Token.{Token}
 use Rattle.text.specs.Verdict.{Verdict, accepted, refused, out_of_bounds, unknown, first_of, token, token_with, tokens_of, refused_at}

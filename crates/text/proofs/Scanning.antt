@@ -1,19 +1,17 @@
 -- A text's verdict from the steps of the piece reader.
-use Rattle.std.proofs.Common.{◌≡◌, ℕ, ◌+◌, ◌<◌, ◌≤◌, ◌⊎◌, List, [], ◌∷◌, ◌++◌, length, drop, Some, None, Ok, Err, sym, refl, ap, ◌∙◌, subst, inl, inr, arith}
-use Rattle.std.proofs.lemmas.List.{append-nil, length-append}
+use Rattle.std.proofs.Common.{◌≡◌, ℕ, ◌<◌, List, [], ◌∷◌, ◌++◌, length, drop, Some, None, Ok, Err, sym, refl, ap, ◌∙◌, subst, inl, inr, arith}
+use Rattle.std.proofs.lemmas.List.{append-nil}
 use Rattle.std.proofs.lemmas.Bool.Decides.{leb_tells}
 use Rattle.faults.specs.declared.fault.Fault.{Fault}
 use Rattle.pieces.specs.declared.piece.Piece.{Piece}
-use Rattle.pieces.specs.declared.piece.Class.{Class}
-use Rattle.pieces.specs.declared.piece.Class.TheVariants as class
 use Rattle.pieces.specs.declared.reader.PieceReader.{PieceReader}
-use Rattle.pieces.specs.Pieces.{Place, Found, Reads, Forms, Cutting, Cut, start}
-use Rattle.pieces.specs.Reader.{place, rest, found, Hands, Finds}
+use Rattle.pieces.specs.Pieces.{Place, Found, Reads, Cutting, start}
+use Rattle.pieces.specs.Reader.{place, rest, found, Hands}
 use Rattle.pieces.proofs.OneCut.{cut-one}
 use Rattle.pieces.proofs.Progress.{join}
 use Rattle.pieces.proofs.Advance.{advance}
 use Rattle.grammar.specs.Model.{Model}
-use Rattle.text.specs.Verdict.{Verdict, accepted, refused, judged, verdict_on, Judged, Exactly}
+use Rattle.text.specs.Verdict.{Verdict, refused, judged, Judged, Exactly}
 
 -- a text has one verdict
 pub exactly : (G : Model) (text : List ℕ) (v : Verdict) → Judged G text v → Exactly (Judged G text) v

@@ -1,7 +1,7 @@
 -- What is noted of the pieces of a text so far.
 --   Noted   how many they are, where the first out of bounds and the first without terminal stand, and the first 128 tokens
 --   Adds    one set of notes has one piece more than another
-use Rattle.std.specs.Prelude.{◌≡◌, ℕ, Bool, cond, List, [], ◌∷◌, ◌++◌, length, take, Some, None, Option}
+use Rattle.std.specs.Prelude.{◌≡◌, Bool, cond, List, [], ◌∷◌, ◌++◌, length, take, Some, None, Option}
 use Rattle.std.specs.Option.{option_map}
 use Rattle.faults.specs.declared.fault.Position.{Position}
 use Rattle.pieces.specs.Pieces.{Found}

@@ -1,4 +1,4 @@
-use Rattle.std.proofs.Common.{◌≡◌, ℕ, List, length, refl, ap, subst, inl, Bor}
+use Rattle.std.proofs.Common.{◌≡◌, ℕ, List, length, refl, ap, subst, inl, MutBor}
 use Rattle.std.proofs.lemmas.Result.{err_from_is_err_and}
 use Rattle.grammar.specs.Block.{block}
 use Rattle.policy.specs.Policies.{step}
@@ -12,7 +12,7 @@ use Rattle.formatter.proofs.Whole.{reindents, fits}
 use Rattle.formatter.proofs.reindent.reindent.Goals as goal
 
 -- a new galley over memories of these lengths
-roomy : (number : ℕ) (bytes : Bor (List ℕ)) (pieces : Bor (List PieceRecord)) (nodes : Bor (List Node)) (x : Galley)
+roomy : (number : ℕ) (bytes : MutBor (List ℕ)) (pieces : MutBor (List PieceRecord)) (nodes : MutBor (List Node)) (x : Galley)
     → length bytes.now ≡ 4096 → length pieces.now ≡ 128 → length nodes.now ≡ 1785 → Empty number bytes pieces nodes x → Roomy x
 roomy number bytes pieces nodes x b p n e = record {
   bytes = rw e.byte_memory b;

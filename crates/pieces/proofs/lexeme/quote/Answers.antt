@@ -1,4 +1,4 @@
-use Rattle.std.proofs.Common.{◌≡◌, refl, arith}
+use Rattle.std.proofs.Common.{refl, arith}
 use Rattle.pieces.proofs.Quotes.{closed, unclosed}
 use Rattle.pieces.proofs.lexeme.quote.Goals as goal
 use Rattle.pieces.proofs.lexeme.quote.Goals.{else-end-inside-via-then-end-inside+else-inside-end-eq34, else-end-inside-via-else-end-inside}

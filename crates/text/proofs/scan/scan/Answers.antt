@@ -1,10 +1,10 @@
-use Rattle.std.proofs.Common.{◌≡◌, ◌<◌, ◌≤◌, [], ◌∷◌, ◌++◌, length, Some, None, Ok, Err, Option, sym, refl, ap, ◌∙◌, subst, arith}
+use Rattle.std.proofs.Common.{◌≡◌, ◌≤◌, [], ◌∷◌, ◌++◌, length, Some, None, Ok, Option, sym, ap, ◌∙◌, subst, arith}
 use Rattle.std.proofs.lemmas.Result.{err_from_is_err_and}
 use Rattle.pieces.specs.declared.piece.Piece.{Piece}
 use Rattle.pieces.specs.declared.reader.PieceReader.{PieceReader}
 use Rattle.pieces.specs.Reader.{found, Hands}
 use Rattle.pieces.proofs.Advance.{advance}
-use Rattle.text.specs.Verdict.{Verdict, Judged, Exactly}
+use Rattle.text.specs.Verdict.{Verdict, Judged}
 use Rattle.text.proofs.Scanning.{exactly, begun, ended, refuses, goes_on, further}
 use Rattle.text.proofs.scan.scan.Goals as goal
 

@@ -18,7 +18,7 @@ loop-end-preserved g c =
     elim c.if-columns-ne0.branch [
       | then-columns-ne0 w ↦ subst (λ (x : ℕ). Reach G ts c.args.symbol (n + 1) x) (sym w.last-is)
           (reach_hit G ts c.args.symbol n m l c.part-columns.ensures (omega (arith, w.if-columns-ne0.true))
-          c.part-columns.type-inv)
+          c.part-columns.type_inv)
       | else-columns-ne0 w ↦ subst (λ (x : ℕ). Reach G ts c.args.symbol (n + 1) x) (sym w.last-is)
           (reach_miss G ts c.args.symbol n m c.loop-end.last l c.part-columns.ensures w.if-columns-ne0.false
           c.loop-end.invariant)

@@ -8,4 +8,4 @@ invariant_of-node c =
     let ns = x.held.nodes.memory.now in
     let z : x.held.nodes.used - 0 ≡ x.held.nodes.used = omega arith in
     let p = ap (λ (k : ℕ). pieces_in (take k ns)) z in
-    (ap (λ (k : ℕ). one_tree (take k ns)) z ∙ x.tree, (omega (arith, x.over, x.few), tt))
+    record { one = ap (λ (k : ℕ). one_tree (take k ns)) z ∙ x.tree; few = omega (arith, p, x.over, x.few) }

@@ -1,4 +1,4 @@
-use Rattle.std.proofs.Common.{◌≡◌, refl}
+use Rattle.std.proofs.Common.{refl}
 use Rattle.pieces.specs.Pieces.{Reads}
 use Rattle.pieces.proofs.Progress.{past_blank, paused, ended}
 use Rattle.pieces.proofs.reader.PieceReader.skip_blanks.Goals as goal

@@ -2,12 +2,12 @@ use Rattle.std.proofs.Common.{ℕ, List, length, sym, ap, ◌∙◌, arith}
 use Rattle.std.specs.Str.{bytes_eq}
 use Rattle.rulefile.specs.Spelled.{spelled}
 use Rattle.rulefile.specs.Places.{same_name}
-use Rattle.rulefile.proofs.Seeking.{same-is, at_found, at_other, at_end}
+use Rattle.rulefile.proofs.Seeking.{at_found, at_other, at_end}
 use Rattle.rulefile.proofs.table.Names.place.Goals as goal
 
 pub returns-then-eq : goal.returns-then-eq
 returns-then-eq c =
-    let e = same-is c.as_slice.result.now c.args.bytes.now c.eq.result c.eq.ensures in
+    let e = c.eq.ensures in
     let f = ap (λ (w : List ℕ). bytes_eq w c.args.bytes.now) c.as_slice.ensures in
     record {
       is = at_found spelled (same_name c.args.bytes.now) c.as_slice-name-items.result.now _ c.as_slice-name-items.ensures.is
@@ -17,7 +17,7 @@ returns-then-eq c =
 
 pub loop-i-preserved : goal.loop-i-preserved
 loop-i-preserved c =
-    let e = same-is c.as_slice.result.now c.args.bytes.now c.eq.result c.eq.ensures in
+    let e = c.eq.ensures in
     let f = ap (λ (w : List ℕ). bytes_eq w c.args.bytes.now) c.as_slice.ensures in
     at_other spelled (same_name c.args.bytes.now) c.as_slice-name-items.result.now _ c.as_slice-name-items.ensures.is
     c.loop-i.i c.loop-i.invariant c.name-item.result c.loop-i-test.true c.name-item.is (sym c.if-eq.false ∙ e ∙ f)

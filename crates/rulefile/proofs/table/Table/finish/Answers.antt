@@ -11,10 +11,11 @@ returns-in-Some c =
     c.in-Some.ensures
 
 pub invariant_of-result : goal.invariant_of-result
-invariant_of-result c = (
-  (omega (arith, c.if-self-eq0.false), omega (arith, c.if-self-eq0-2.false), omega (arith, c.if-self-eq0-3.false)),
-  (c.requires, (all-ordered 2 (rules c.args.self.rules) (sym c.in_default.ensures), tt)),
-)
+invariant_of-result c = record {
+  some = (omega (arith, c.if-self-eq0.false), omega (arith, c.if-self-eq0-2.false), omega (arith, c.if-self-eq0-3.false));
+  bounded = c.requires;
+  in_order = all-ordered 2 (rules c.args.self.rules) (sym c.in_default.ensures);
+}
 
 pub returns : goal.returns
 returns c =

@@ -25,49 +25,49 @@ To t r u es = Gives (symbols (several es)) (λ ns ts. items_by ns ts (several es
 abbrev OutOf : Table → Entries → Type 0
 OutOf t es = Full (symbols (several es)) t
 
-pub returns-in-err-item-2 : goal.returns-in-err-item-2
-returns-in-err-item-2 c =
+pub returns-in_err-item-in-Two : goal.returns-in_err-item-in-Two
+returns-in_err-item-in-Two c =
     let t = c.args.self.now in
     let a = c.in-Two.a in
     let b = c.in-Two.b in
-    rw c.from-residual-in-err-item-2.ensures
-    (subst (OutOf t) (sym c.in-Two.is) (first-full (own a) (own b) t c.in-err-item-2.ensures))
+    rw c.from_residual-in_err-item-in-Two.ensures
+    (subst (OutOf t) (sym c.in-Two.is) (first-full (own a) (own b) t c.in_err-item-in-Two.ensures))
 
-pub returns-in-err-item-4 : goal.returns-in-err-item-4
-returns-in-err-item-4 c =
+pub returns-in_err-item-in-Three : goal.returns-in_err-item-in-Three
+returns-in_err-item-in-Three c =
     let t = c.args.self.now in
     let a = c.in-Three.a in
-    rw c.from-residual-in-err-item-4.ensures
+    rw c.from_residual-in_err-item-in-Three.ensures
     (subst (OutOf t) (sym c.in-Three.is)
-    (first-full (own a) (called c.in-Three.b.symbol ∷ own c.in-Three.c) t c.in-err-item-4.ensures))
+    (first-full (own a) (called c.in-Three.b.symbol ∷ own c.in-Three.c) t c.in_err-item-in-Three.ensures))
 
-pub returns-in-err-item-5 : goal.returns-in-err-item-5
-returns-in-err-item-5 c =
+pub returns-in_err-item-in-Three-2 : goal.returns-in_err-item-in-Three-2
+returns-in_err-item-in-Three-2 c =
     let t = c.args.self.now in
     let u = c.item-in-Three.new.self in
     let a = c.in-Three.a in
     let b = c.in-Three.b in
     let d = c.in-Three.c in
-    rw c.from-residual-in-err-item-5.ensures
+    rw c.from_residual-in_err-item-in-Three-2.ensures
     (subst (OutOf t) (sym c.in-Three.is)
-    (later-full (own a) (called b.symbol ∷ own d) (by a) t u c.in-ok-item-4.field-0 c.in-ok-item-4.ensures
-    (first-full (own b) (own d) u c.in-err-item-5.ensures)))
+    (later-full (own a) (called b.symbol ∷ own d) (by a) t u c.in_ok-item-in-Three.field-0 c.in_ok-item-in-Three.ensures
+    (first-full (own b) (own d) u c.in_err-item-in-Three-2.ensures)))
 
-pub returns-in-ok-item-3 : goal.returns-in-ok-item-3
-returns-in-ok-item-3 c =
+pub returns-in_ok-item-in-Two-2 : goal.returns-in_ok-item-in-Two-2
+returns-in_ok-item-in-Two-2 c =
     let t = c.args.self.now in
     let u = c.item-in-Two.new.self in
     let v = c.item-in-Two-2.new.self in
     let a = c.in-Two.a in
     let b = c.in-Two.b in
-    let x = c.in-ok-item-2.field-0 in
-    let y = c.in-ok-item-3.field-0 in
-    let g = both_given (own a) (own b) (by a) (by b) t u v x y c.in-ok-item-2.ensures c.in-ok-item-3.ensures in
+    let x = c.in_ok-item-in-Two.field-0 in
+    let y = c.in_ok-item-in-Two-2.field-0 in
+    let g = both_given (own a) (own b) (by a) (by b) t u v x y c.in_ok-item-in-Two.ensures c.in_ok-item-in-Two-2.ensures in
     subst (To t (Some (Two x y)) v) (sym c.in-Two.is)
     (g.0, g.1, λ ns ts. ap (λ (p : Item × Item). Two p.0 p.1) (g.2 ns ts), g.3)
 
-pub returns-in-ok-item-6 : goal.returns-in-ok-item-6
-returns-in-ok-item-6 c =
+pub returns-in_ok-item-in-Three-3 : goal.returns-in_ok-item-in-Three-3
+returns-in_ok-item-in-Three-3 c =
     let t = c.args.self.now in
     let u = c.item-in-Three.new.self in
     let v = c.item-in-Three-2.new.self in
@@ -75,11 +75,11 @@ returns-in-ok-item-6 c =
     let a = c.in-Three.a in
     let b = c.in-Three.b in
     let d = c.in-Three.c in
-    let x = c.in-ok-item-4.field-0 in
-    let y = c.in-ok-item-5.field-0 in
-    let z = c.in-ok-item-6.field-0 in
-    let g = both_given (own b) (own d) (by b) (by d) u v w y z c.in-ok-item-5.ensures c.in-ok-item-6.ensures in
+    let x = c.in_ok-item-in-Three.field-0 in
+    let y = c.in_ok-item-in-Three-2.field-0 in
+    let z = c.in_ok-item-in-Three-3.field-0 in
+    let g = both_given (own b) (own d) (by b) (by d) u v w y z c.in_ok-item-in-Three-2.ensures c.in_ok-item-in-Three-3.ensures in
     let h = both_given (own a) (called b.symbol ∷ own d) (by a) (λ ns ts. (by b ns ts, by d ns ts)) t u w x (y, z)
-    c.in-ok-item-4.ensures g in
+    c.in_ok-item-in-Three.ensures g in
     subst (To t (Some (Three x y z)) w) (sym c.in-Three.is)
     (h.0, h.1, λ ns ts. ap (λ (p : Item × (Item × Item)). Three p.0 p.1.0 p.1.1) (h.2 ns ts), h.3)

@@ -27,7 +27,11 @@ invariant_of-self c =
     let e = ap (λ (zs : List Terminal). map denoted zs)
     (take_more_set s.list s.count c.args.terminal (omega (arith, c.if-self-eq32.false)))
     ∙ map_push denoted (take s.count s.list) c.args.terminal in
-    (length-set s.list s.count c.args.terminal ∙ s.whole, (omega (arith, c.if-self-eq32.false), (ap distinct e ∙ p, tt)))
+    record {
+      whole = length-set s.list s.count c.args.terminal ∙ s.whole;
+      few = omega (arith, c.if-self-eq32.false);
+      once = ap distinct e ∙ p;
+    }
 
 pub returns : goal.returns
 returns c =

@@ -1,4 +1,4 @@
-use Rattle.std.proofs.Common.{◌≡◌, Some, None, refl}
+use Rattle.std.proofs.Common.{Some, None, refl}
 use Rattle.pieces.specs.Reader.{found}
 use Rattle.text.proofs.Noting.{noted_more}
 use Rattle.text.proofs.Pushes.{push-none}

@@ -1,4 +1,4 @@
-use Rattle.std.proofs.Common.{◌≡◌, arith}
+use Rattle.std.proofs.Common.{arith}
 use Rattle.text.proofs.Pushes.{push-fits, push-full}
 use Rattle.text.proofs.token.Tokens.push.Goals as goal
 
