@@ -1,5 +1,5 @@
 -- The whole way from text to text.
-use Rattle.std.proofs.Common.{◌≡◌, ℕ, ◌+◌, ◌≤◌, List, length, Ok, Err, Result, inl, inr, arith, MatchResult}
+use Rattle.std.proofs.Common.{◌≡◌, ℕ, ◌+◌, ◌≤◌, List, length, Ok, Err, Result, inr, arith, MatchResult}
 use Rattle.faults.specs.declared.fault.Fault.{Fault}
 use Rattle.galley.specs.declared.galley.Galley.{Galley}
 use Rattle.formatter.specs.Reindents.{Roomy, ReadIn, Writes, Reindents}

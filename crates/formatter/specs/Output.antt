@@ -1,6 +1,6 @@
 -- What the program prints.
 --   Prints   the re-indented text, or the line of the fault that refuses it
-use Rattle.std.specs.Prelude.{◌≡◌, ℕ, true, false, List, length, take, replicate, Ok, Err, vec_items}
+use Rattle.std.specs.Prelude.{◌≡◌, ℕ, true, false, List, take, replicate, Ok, Err, vec_items}
 use Rattle.faults.specs.declared.fault.Fault.{Fault}
 use Rattle.formatter.specs.declared.output.Output.{Output}
 use Rattle.formatter.specs.Line.{fault_line}

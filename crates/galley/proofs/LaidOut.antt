@@ -1,5 +1,5 @@
 -- A galley that was laid out.
-use Rattle.std.proofs.Common.{◌≡◌, ℕ, true, false, eqb, List, is_some, Some, None, Ok, Err, Option, Result, sym, refl, subst, arith}
+use Rattle.std.proofs.Common.{◌≡◌, ℕ, false, eqb, List, is_some, Ok, Result, sym, subst, arith}
 use Rattle.std.proofs.lemmas.Bool.Decides.{nat_tests}
 use Rattle.faults.specs.declared.fault.Fault.{Fault}
 use Rattle.grammar.specs.Model.{Model}

@@ -4,8 +4,7 @@ use Rattle.std.specs.List.{slice_get, AllByRecursion as All}
 use Rattle.std.proofs.lemmas.List.{append-nil, length-map, map-append}
 use Rattle.grammar.specs.declared.rule.Child.{Child}
 use Rattle.grammar.specs.declared.rule.Child.TheVariants.{Piece, Node as Below}
-use Rattle.grammar.specs.declared.rule.Symbol.{Symbol}
-use Rattle.grammar.specs.declared.rule.Symbol.TheVariants.{Terminal, Nonterminal}
+use Rattle.grammar.specs.declared.rule.Symbol.TheVariants.{Nonterminal}
 use Rattle.grammar.specs.declared.rule.Item.{Item}
 use Rattle.grammar.specs.declared.rule.Items.{Items}
 use Rattle.grammar.specs.declared.rule.Items.TheVariants.{One, Two, Three}
@@ -16,12 +15,12 @@ use Rattle.tree.specs.declared.node.Node.{Node}
 use Rattle.tree.specs.Forest.{Forest}
 use Rattle.tree.specs.Forest as numbers
 use Rattle.columns.specs.declared.relation.Relation.TheVariants.{Any}
-use Rattle.chart.specs.Trees.{Tree, width, preorder}
+use Rattle.chart.specs.Trees.{width, preorder}
 use Rattle.chart.specs.Readings.{terminals}
-use Rattle.chart.specs.Nodes.{Tells, Holds, shape_of}
+use Rattle.chart.specs.Nodes.{Tells, shape_of}
 use Rattle.chart.proofs.Numbers.{all-numbers}
 use Rattle.chart.proofs.Once.{all_read}
-use Rattle.shape.specs.Children.{children, kids, leaves, under, pieces_in, closes, one_tree}
+use Rattle.shape.specs.Children.{children, kids, under, pieces_in, closes, one_tree}
 use Rattle.shape.specs.Shaped.{Shaped, tree}
 use Rattle.shape.proofs.Trees.{shaped_closes}
 use Rattle.galley.specs.Reads.{FirstHeld}

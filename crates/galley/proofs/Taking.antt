@@ -15,7 +15,7 @@ use Rattle.chart.specs.Nodes as nodes
 use Rattle.galley.specs.declared.held.Store.{Store}
 use Rattle.galley.specs.declared.held.Held.{Held}
 use Rattle.galley.specs.Stores.{front, room, Fits, Sound, OneTree}
-use Rattle.galley.specs.Loads.{byte_count, bytes_of, record_of, records_of, InText, Inside}
+use Rattle.galley.specs.Loads.{byte_count, bytes_of, records_of, Inside}
 use Rattle.galley.specs.declared.galley.Galley.{Galley}
 use Rattle.galley.specs.Reads.{FirstHeld, Read, Holds, Took, short, barred, Settled}
 use Rattle.text.specs.Verdict.{Verdict, accepted}

@@ -5,7 +5,7 @@
 --   LaidOut    the verdict of the layout on what a galley holds
 --   Lays       that refusal or the layout's with the galley as it was; or the pieces stand in their places, and the slip
 --              and the galley tell the length of their text
-use Rattle.std.specs.Prelude.{◌≡◌, ℕ, cond, List, [], ◌∷◌, length, is_some, Some, None, Ok, Err, Option, Result, ◌==◌}
+use Rattle.std.specs.Prelude.{◌≡◌, cond, List, [], ◌∷◌, length, is_some, Some, None, Ok, Err, Option, Result, ◌==◌}
 use Rattle.faults.specs.declared.fault.Fault.{Fault}
 use Rattle.faults.specs.declared.fault.Fault.TheVariants.{AlreadyLaid, NoNode}
 use Rattle.grammar.specs.Model.{Model}

@@ -1,7 +1,7 @@
 -- Laying out and writing in one go.
 --   Lets     a text was laid out but not written, and let go again
 --   Prints   laid out and written; or not laid out; or laid out, refused by write with the buffer as it was, and let go
-use Rattle.std.specs.Prelude.{◌≡◌, ℕ, ◌⊎◌, List, length, None, Ok, Err, Result}
+use Rattle.std.specs.Prelude.{◌≡◌, ℕ, ◌⊎◌, List, length, Ok, Err, Result}
 use Rattle.faults.specs.declared.fault.Fault.{Fault}
 use Rattle.grammar.specs.Model.{Model}
 use Rattle.policy.specs.declared.question.Question.{Question}

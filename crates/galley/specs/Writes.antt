@@ -5,7 +5,7 @@
 --   Releases, Writes   the two calls, by their first fault if there is one
 --   Released      the slip is handed back and nothing changed, or the galley is no longer laid
 --   Wrote         likewise, and the text stands in the buffer from the start on
-use Rattle.std.specs.Prelude.{◌≡◌, ℕ, ◌+◌, cond, not, ◌&&◌, List, ◌++◌, length, take, drop, is_some, Some, None, Ok, Err, Option, Result, ◌==◌, nat_le}
+use Rattle.std.specs.Prelude.{◌≡◌, ℕ, ◌+◌, cond, List, ◌++◌, length, take, drop, is_some, Some, None, Ok, Err, Option, Result, ◌==◌, nat_le}
 use Rattle.faults.specs.declared.fault.Fault.{Fault}
 use Rattle.faults.specs.declared.fault.Fault.TheVariants.{WrongSlip, NoRoom}
 use Rattle.layout.specs.Text.{text}

@@ -1,12 +1,10 @@
 -- Laying a tree out, one item after another.
-use Rattle.std.proofs.Common.{◌≡◌, ℕ, ◌+◌, ◌-◌, ◌<◌, ◌≤◌, List, [], ◌∷◌, ◌++◌, length, get_or, take, drop, set, Some, None, Ok, Err, Option, Result, sym, refl, ap, ◌∙◌, subst, arith}
-use Rattle.std.specs.List.{slice_get}
+use Rattle.std.proofs.Common.{◌≡◌, ℕ, ◌+◌, ◌<◌, ◌≤◌, List, [], ◌∷◌, ◌++◌, length, get_or, take, drop, Ok, Err, Option, Result, sym, refl, ap, ◌∙◌, subst, arith}
 use Rattle.std.proofs.lemmas.List.{append_assoc, append-nil, drop_all, drop_more, length-drop, length-map, length-set, take_more_set}
 use Rattle.faults.specs.declared.fault.Fault.{Fault}
 use Rattle.faults.specs.declared.fault.Fault.TheVariants.{TooDeep}
 use Rattle.grammar.specs.declared.rule.Symbol.{Symbol}
 use Rattle.grammar.specs.declared.rule.Symbol.TheVariants.{Terminal, Nonterminal}
-use Rattle.grammar.specs.declared.rule.Rule.{Rule}
 use Rattle.grammar.specs.Model as model
 use Rattle.grammar.specs.Model.{Model}
 use Rattle.policy.specs.declared.question.Question.{Question}
@@ -23,7 +21,7 @@ use Rattle.layout.specs.declared.placement.Placement.{Placement}
 use Rattle.layout.specs.declared.placer.Placer.{Placer}
 use Rattle.layout.specs.Layouts.{Lays, LaysOut, lengths, prefixed, start}
 use Rattle.layout.specs.Layouts.Lays.{end, deep, piece, node}
-use Rattle.layout.specs.Lines.{asked, behind, placed}
+use Rattle.layout.specs.Lines.{asked, placed}
 use Rattle.layout.specs.Placers.{Puts, Within}
 use Rattle.layout.specs.Questions.{answer_of}
 

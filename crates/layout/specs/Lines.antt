@@ -3,7 +3,7 @@
 --            the first piece of all, with the cursor still at 0, never opens one
 --   behind   the line behind a piece
 --   asked    a line at which an item may ask for a break
-use Rattle.std.specs.Prelude.{ℕ, ◌+◌, Bool, true, false, ◌&&◌, ◌||◌, nat_lt}
+use Rattle.std.specs.Prelude.{ℕ, ◌+◌, Bool, false, ◌&&◌, ◌||◌, nat_lt}
 use Rattle.layout.specs.declared.line.Line.{Line}
 use Rattle.layout.specs.declared.placement.Placement.{Placement}
 

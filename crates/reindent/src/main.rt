@@ -3,21 +3,21 @@
 
 #![tactic(auto)]
 
-use anyhow::anyhow;
 use formatter::output::print_reindented;
 use std::io::{Read, Write};
+use std::process::ExitCode;
 
 // One byte more than the longest text that is accepted.
 const LIMIT: u64 = 12289;
 
-fn main(rt: HostRuntime) -> anyhow::Result<()> {
+fn main(rt: HostRuntime) -> anyhow::Result<ExitCode> {
     let mut text = Vec::new(rt.alloc());
     rt.stdin().take(LIMIT).read_to_end(&mut text)?;
     let output = print_reindented(rt.alloc(), text.as_slice())?;
     rt.stdout().write_all(output.bytes.as_slice())?;
     if output.accepted {
-        Ok(())
+        Ok(ExitCode::SUCCESS)
     } else {
-        Err(anyhow!("refused"))
+        Ok(ExitCode::FAILURE)
     }
 }

@@ -19,7 +19,7 @@ use Rattle.rulefile.specs.Bounds.{below, all_below, in_bounds, higher, items_ord
 use Rattle.rulefile.specs.Built.{model_of}
 use Rattle.rulefile.specs.Denoted.{denoted, alike, is_distinct}
 use Rattle.rulefile.specs.Spelled.{spelled}
-use Rattle.rulefile.specs.Tables.{names, terminals, rules}
+use Rattle.rulefile.specs.Tables.{terminals, rules}
 use Rattle.rulefile.specs.Gets.{nth-map}
 use Rattle.rulefile.specs.Growing.{length-listed}
 use Rattle.rulefile.specs.Symbols.{alike_itself}

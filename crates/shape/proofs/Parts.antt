@@ -1,10 +1,10 @@
 -- Taking trees apart and putting them together.
-use Rattle.std.proofs.Common.{◌≡◌, ℕ, zero, suc, ◌+◌, ◌-◌, ◌<◌, ◌≤◌, List, [], ◌∷◌, ◌++◌, length, take, drop, sym, refl, ap, ◌∙◌, subst, append_assoc, arith}
+use Rattle.std.proofs.Common.{◌≡◌, ℕ, zero, suc, ◌+◌, ◌<◌, ◌≤◌, List, [], ◌∷◌, ◌++◌, length, take, drop, sym, subst, append_assoc, arith}
 use Rattle.grammar.specs.declared.rule.Child.{Child}
 use Rattle.grammar.specs.declared.rule.Child.TheVariants.{Piece, Node}
 use Rattle.tree.specs.declared.node.Node.{Node as NodeRecord}
 use Rattle.shape.specs.Children.{under}
-use Rattle.shape.specs.Shaped.{Shaped, Passes, tree}
+use Rattle.shape.specs.Shaped.{Shaped, Passes}
 
 -- the node of number k, the pieces before it, and what children cover from it on
 pub record Found (cs : List Child) (ns : List NodeRecord) (p k : ℕ) : Type 0 where

@@ -1,15 +1,14 @@
 -- What is told of a node of one tree.
-use Rattle.std.proofs.Common.{◌≡◌, ℕ, zero, suc, ◌+◌, ◌-◌, ◌<◌, ◌≤◌, true, List, [], ◌∷◌, ◌++◌, length, get_or, take, drop, Some, None, Option, sym, refl, ap, ◌∙◌, subst, arith}
+use Rattle.std.proofs.Common.{◌≡◌, ℕ, suc, ◌+◌, ◌<◌, ◌≤◌, true, List, [], ◌∷◌, length, get_or, take, drop, Some, None, Option, sym, refl, ap, ◌∙◌, subst, arith}
 use Rattle.std.specs.List.{slice_get}
 use Rattle.std.proofs.lemmas.List.{length-drop, length-take-le, take-append-drop}
 use Rattle.std.proofs.lemmas.Option.{slice_get-get_or, slice_get_past}
-use Rattle.grammar.specs.declared.rule.Child.{Child}
 use Rattle.tree.specs.declared.node.Node.{Node}
 use Rattle.shape.specs.declared.facts.NodeFacts.{NodeFacts}
 use Rattle.shape.specs.Children.{under, kids, pieces_in, closes, one_tree}
 use Rattle.shape.specs.Counted.{path, span}
 use Rattle.shape.specs.Shaped.{Shaped, Passes, tree}
-use Rattle.shape.specs.Told.{Told, Tells, ToldOnce}
+use Rattle.shape.specs.Told.{Told, ToldOnce}
 use Rattle.shape.proofs.Counts.{blank}
 use Rattle.shape.proofs.Trees.{shaped_of, shaped_closes, span-all, passes_first}
 use Rattle.shape.proofs.Parts.{Found, found_at, Divided, divide}

@@ -1,12 +1,12 @@
 -- Trees by node records: what closes is a tree, and a walk passes what is counted.
-use Rattle.std.proofs.Common.{◌≡◌, ℕ, zero, suc, ◌+◌, ◌-◌, ◌<◌, ◌≤◌, Bool, true, false, cond, leb, List, [], ◌∷◌, ◌++◌, length, sym, refl, ap, ◌∙◌, subst, append_assoc, arith}
+use Rattle.std.proofs.Common.{◌≡◌, ℕ, zero, suc, ◌+◌, ◌-◌, ◌<◌, ◌≤◌, Bool, true, false, cond, leb, List, [], ◌∷◌, ◌++◌, length, sym, refl, ap, ◌∙◌, subst, arith}
 use Rattle.std.proofs.lemmas.Bool.{leb-true, leb-false}
 use Rattle.grammar.specs.declared.rule.Child.{Child}
 use Rattle.grammar.specs.declared.rule.Child.TheVariants.{Piece, Node}
 use Rattle.tree.specs.declared.node.Node.{Node as NodeRecord}
 use Rattle.shape.specs.declared.count.Path.{Path}
 use Rattle.shape.specs.Children.{under, kids, leaves, pieces_in, closes}
-use Rattle.shape.specs.Counted.{pieces_before, widened, path, span}
+use Rattle.shape.specs.Counted.{pieces_before, path, span}
 use Rattle.shape.specs.Shaped.{Shaped, Passes, tree}
 
 pub kids-append : (cs ds : List Child) → kids (cs ++ ds) ≡ kids cs + kids ds

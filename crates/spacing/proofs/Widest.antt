@@ -1,5 +1,5 @@
 -- A text as long as the limit.
-use Rattle.std.proofs.Common.{ℕ, zero, suc, ◌<◌, Bool, true, false, List, ◌∷◌, length, replicate, refl, arith}
+use Rattle.std.proofs.Common.{ℕ, zero, suc, ◌<◌, Bool, true, false, List, ◌∷◌, replicate, refl, arith}
 use Rattle.std.proofs.lemmas.Bool.{both_ways}
 use Rattle.tree.specs.declared.piece.PieceRecord.{PieceRecord}
 use Rattle.layout.proofs.Widths.{text_wide}

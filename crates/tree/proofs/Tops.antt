@@ -1,7 +1,6 @@
 -- The top of a tree, as the front of the list of nodes.
-use Rattle.std.proofs.Common.{◌≡◌, ℕ, ◌+◌, ◌<◌, ◌≤◌, List, [], ◌∷◌, map, length, get_or, drop, Some, None, Option, sym, refl, ap, ◌∙◌, subst, arith}
+use Rattle.std.proofs.Common.{◌≡◌, ℕ, ◌<◌, List, [], ◌∷◌, length, get_or, drop, Some, None, sym, refl, ◌∙◌, arith}
 use Rattle.std.specs.List.{slice_get}
-use Rattle.grammar.specs.declared.rule.Rule.{Rule}
 use Rattle.grammar.specs.Model.{Model}
 use Rattle.tree.specs.declared.node.Node.{Node}
 use Rattle.tree.specs.Forest.{Tree}

@@ -1,9 +1,7 @@
 -- What a walk that cannot go on tells of the tree.
-use Rattle.std.proofs.Common.{◌≡◌, ℕ, ◌+◌, ◌<◌, ◌≤◌, List, [], ◌∷◌, ◌++◌, map, length, drop, Some, None, Ok, Err, Option, Result, sym, refl, ap, ◌∙◌, subst, arith}
+use Rattle.std.proofs.Common.{◌≡◌, ℕ, ◌<◌, List, [], ◌∷◌, ◌++◌, length, Some, None, Ok, Err, Option, Result, sym, ap, ◌∙◌, subst, arith}
 use Rattle.std.proofs.lemmas.List.{length-map, length-drop, length-take-le}
 use Rattle.faults.specs.declared.fault.Fault.{Fault}
-use Rattle.faults.specs.declared.fault.Fault.TheVariants.{GrammarMismatch}
-use Rattle.grammar.specs.declared.rule.Item.{Item}
 use Rattle.grammar.specs.Model.{Model}
 use Rattle.tree.specs.declared.walk.Walk.{Walk}
 use Rattle.tree.specs.declared.walk.Step.{Step}
@@ -11,7 +9,7 @@ use Rattle.tree.specs.Forest.{Forest}
 use Rattle.tree.specs.Slots.{Slot}
 use Rattle.tree.specs.Terminals.{listed}
 use Rattle.tree.specs.Covering.{Blocked, Ends, Still}
-use Rattle.tree.specs.Walks.{Ahead, Ended, Nexts, Same, items_of, pending, rules_left, terminals_left, waiting_slots}
+use Rattle.tree.specs.Walks.{Ahead, Nexts, Same, items_of, pending, rules_left, terminals_left}
 use Rattle.tree.proofs.Forests.{ended, covers, stopped}
 
 module _ {X : Type 0} (G : Model) (column : ℕ) (w v : Walk X) (still : Still w v) where

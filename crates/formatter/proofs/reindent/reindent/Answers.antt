@@ -1,4 +1,4 @@
-use Rattle.std.proofs.Common.{◌≡◌, ℕ, List, length, refl, ap, subst, inl, MutBor}
+use Rattle.std.proofs.Common.{◌≡◌, ℕ, List, length, refl, subst, inl, MutBor}
 use Rattle.std.proofs.lemmas.Result.{err_from_is_err_and}
 use Rattle.grammar.specs.Block.{block}
 use Rattle.policy.specs.Policies.{step}

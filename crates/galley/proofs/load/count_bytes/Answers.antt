@@ -1,4 +1,4 @@
-use Rattle.std.proofs.Common.{◌≡◌, ◌∙◌, arith}
+use Rattle.std.proofs.Common.{◌∙◌, arith}
 use Rattle.galley.specs.Loads.{byte_count}
 use Rattle.galley.proofs.Loading.{count_more, all-tokens}
 use Rattle.galley.proofs.load.count_bytes.Goals as goal

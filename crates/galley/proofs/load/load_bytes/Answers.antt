@@ -1,4 +1,4 @@
-use Rattle.std.proofs.Common.{◌≡◌, ℕ, ◌+◌, ◌≤◌, length, take, sym, ap, ◌∙◌, arith}
+use Rattle.std.proofs.Common.{◌≤◌, length, ◌∙◌, arith}
 use Rattle.galley.specs.Loads.{byte_count, bytes_of}
 use Rattle.galley.proofs.Loading.{count_more, count-below, token-inside, loaded_more, all-tokens}
 use Rattle.galley.proofs.load.load_bytes.Goals as goal

@@ -1,4 +1,4 @@
-use Rattle.std.proofs.Common.{◌≡◌, sym, ◌∙◌, arith, rules}
+use Rattle.std.proofs.Common.{◌∙◌, arith, rules}
 use Rattle.layout.proofs.Emits.{left-next, fits, wide_next, so_far, rest-same, text-end}
 use Rattle.layout.proofs.Widths.{width-end}
 use Rattle.layout.proofs.text.emit.Goals as goal

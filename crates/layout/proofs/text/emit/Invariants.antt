@@ -1,4 +1,4 @@
-use Rattle.std.proofs.Common.{◌≡◌, ◌+◌, ◌*◌, ◌≤◌, ◌++◌, length, take, drop}
+use Rattle.std.proofs.Common.{◌≡◌, ◌+◌, ◌++◌, length, take, drop}
 use Rattle.tree.specs.Pieces.{total}
 use Rattle.layout.specs.Text.{text, width}
 use Rattle.layout.proofs.text.emit.Given as goal

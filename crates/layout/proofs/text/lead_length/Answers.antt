@@ -1,4 +1,4 @@
-use Rattle.std.proofs.Common.{sym, ◌∙◌, arith}
+use Rattle.std.proofs.Common.{sym, arith}
 use Rattle.layout.proofs.Leads.{long_new, long_on}
 use Rattle.layout.proofs.text.lead_length.Goals as goal
 

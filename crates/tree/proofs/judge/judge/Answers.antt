@@ -1,4 +1,4 @@
-use Rattle.std.proofs.Common.{◌≡◌, ap, ◌∙◌}
+use Rattle.std.proofs.Common.{ap, ◌∙◌}
 use Rattle.tree.proofs.Steps.{at_some, at_none, came_on, came_back, under}
 use Rattle.tree.proofs.judge.judge.Goals as goal
 

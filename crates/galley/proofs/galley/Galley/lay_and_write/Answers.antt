@@ -1,4 +1,4 @@
-use Rattle.std.proofs.Common.{◌≡◌, length, Ok, Err, sym, refl, ap, ◌∙◌, subst, inl, inr}
+use Rattle.std.proofs.Common.{length, Err, subst, inr}
 use Rattle.galley.specs.declared.slip.Declined.{Declined}
 use Rattle.galley.specs.Lays.{no_lay}
 use Rattle.galley.specs.Writes.{Wrote, write_fault}

@@ -1,4 +1,4 @@
-use Rattle.std.proofs.Common.{◌≡◌, length, refl, arith, rules}
+use Rattle.std.proofs.Common.{length, refl, arith, rules}
 use Rattle.text.specs.Tokens.{listed}
 use Rattle.text.proofs.Places.{accepted-inside}
 use Rattle.galley.proofs.Taking.{settled}

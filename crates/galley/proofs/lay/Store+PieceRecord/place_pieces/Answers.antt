@@ -1,5 +1,4 @@
-use Rattle.std.proofs.Common.{◌≡◌, ◌-◌, List, refl, ap, ◌∙◌, arith}
-use Rattle.tree.specs.declared.piece.PieceRecord.{PieceRecord}
+use Rattle.std.proofs.Common.{◌≡◌, ◌-◌, refl, ap, ◌∙◌, arith}
 use Rattle.tree.specs.Pieces.{total, longest}
 use Rattle.galley.specs.Stores.{front}
 use Rattle.galley.proofs.Standing.{placed-front, placed-room, total-standing, longest-standing}

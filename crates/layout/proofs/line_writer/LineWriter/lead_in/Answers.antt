@@ -1,4 +1,4 @@
-use Rattle.std.proofs.Common.{◌≡◌, ℕ, List, sym, ap, ◌∙◌, subst, arith}
+use Rattle.std.proofs.Common.{ℕ, List, sym, subst, arith}
 use Rattle.layout.specs.Writers.{Wrote}
 use Rattle.layout.proofs.Leads.{lead_new, long_new, long_on}
 use Rattle.layout.proofs.Wrote.{wrote_on}

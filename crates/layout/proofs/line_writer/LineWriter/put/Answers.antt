@@ -1,4 +1,4 @@
-use Rattle.std.proofs.Common.{refl, arith}
+use Rattle.std.proofs.Common.{refl}
 use Rattle.std.proofs.lemmas.List.{length-set}
 use Rattle.layout.proofs.Writing.{one-front, one-rest}
 use Rattle.layout.proofs.line_writer.LineWriter.put.Goals as goal

@@ -1,4 +1,4 @@
-use Rattle.std.proofs.Common.{◌≡◌, ap}
+use Rattle.std.proofs.Common.{ap}
 use Rattle.policy.specs.declared.question.Answer.{Answer}
 use Rattle.layout.proofs.Puts.{piece_there, piece_put}
 use Rattle.layout.proofs.Widths.{short}

@@ -1,6 +1,5 @@
 use Rattle.std.proofs.Common.{◌≡◌, List, map, take, sym, ap, ◌∙◌, subst, arith}
 use Rattle.std.proofs.lemmas.List.{length-set, take_more_set, map_push}
-use Rattle.grammar.specs.Model as model
 use Rattle.rulefile.specs.declared.table.Terminals.{Terminals}
 use Rattle.rulefile.specs.declared.terminal.Terminal.{Terminal}
 use Rattle.rulefile.specs.Denoted.{denoted, alike, distinct}

@@ -1,6 +1,5 @@
 use Rattle.std.proofs.Common.{ℕ, List, ap, ◌∙◌}
 use Rattle.std.specs.Str.{bytes_eq}
-use Rattle.grammar.specs.Model as model
 use Rattle.rulefile.proofs.terminal.Terminal.is_word.Goals as goal
 
 pub returns-in-Word : goal.returns-in-Word

@@ -1,4 +1,4 @@
-use Rattle.std.proofs.Common.{◌≡◌, ◌≤◌, length, refl, arith, rules}
+use Rattle.std.proofs.Common.{refl, arith}
 use borrow.Author.Tests.{lt-true, le-false}
 use Rattle.tree.proofs.Stacks.{pushed, high}
 use Rattle.tree.proofs.stack.Stack.push.Goals as goal

@@ -1,7 +1,6 @@
-use Rattle.std.proofs.Common.{◌≡◌, ◌+◌, length, get_or, drop, refl, arith, rules}
+use Rattle.std.proofs.Common.{drop, refl, arith, rules}
 use Rattle.std.proofs.lemmas.List.{length-set}
-use Rattle.tree.specs.Pieces.{total}
-use Rattle.tree.proofs.Naming.{blank, total-next, named_more, named_none, named_all}
+use Rattle.tree.proofs.Naming.{total-next, named_more, named_none, named_all}
 use Rattle.tree.proofs.terminals.Terminals.of.Goals as goal
 
 pub slice_bounds-terminal-end : goal.slice_bounds-terminal-end

@@ -1,4 +1,4 @@
-use Rattle.std.proofs.Common.{◌≡◌, ◌<◌, sym, refl, ap, ◌∙◌, arith, rules}
+use Rattle.std.proofs.Common.{sym, refl, ap, arith}
 use Rattle.std.specs.List.{flat_map}
 use Rattle.tree.specs.Slots.{frame_slots}
 use Rattle.tree.proofs.Tops.{no_nodes, no_top, top-first}

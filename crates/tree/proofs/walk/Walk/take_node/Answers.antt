@@ -1,5 +1,4 @@
-use Rattle.std.proofs.Common.{◌≡◌, ℕ, ◌<◌, ◌≤◌, length, Some, sym, refl, ap, ◌∙◌, arith, rules}
-use Rattle.grammar.specs.declared.rule.Rule.{Rule}
+use Rattle.std.proofs.Common.{◌≡◌, ℕ, ◌<◌, length, Some, sym, refl, ap, ◌∙◌, arith, rules}
 use Rattle.tree.specs.Walks.{terminals_left}
 use Rattle.tree.proofs.Taking.{rule-next, no_rule, unknown-rule, other-left}
 use Rattle.tree.proofs.walk.Walk.take_node.Goals as goal
