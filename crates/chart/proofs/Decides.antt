@@ -1,6 +1,6 @@
 -- Whether items can divide tokens can be decided, if it can be for the parts.
 use Rattle.std.proofs.Common.{◌≡◌, ℕ, suc, ◌+◌, ◌-◌, ◌<◌, ◌≤◌, List, [], ◌∷◌, length, refl, subst, inl, inr, ⊎_elim, arith}
-use Rattle.std.specs.List.{slice_get, AllByRecursion as All}
+use Rattle.std.specs.List.{slice_get, AllByRecursion}
 use Rattle.std.proofs.lemmas.Bool.{cases_lt, cases_eq}
 use Rattle.columns.specs.Relation.{Meets}
 use Rattle.columns.specs.Mask.{Near}
@@ -51,7 +51,8 @@ module _ (G : Model) (ts : List Token) where
         (λ h. decided_both (decided_near x i k c (λ d. decide x p i k d h (omega arith) (omega arith))) r)
         (λ h. inr (λ n. omega (arith, near_grows G ts x i k c n.0))) (cases_lt i k)
 
-    pub decided_row : (xs : List Item) (i c : ℕ) → All P xs → slack ≤ 1 → j - i ≤ W → (j - i) + slack ≤ W + (length xs - 1) → Decided
+    pub decided_row : (xs : List Item) (i c : ℕ) → AllByRecursion P xs → slack ≤ 1 → j - i ≤ W
+        → (j - i) + slack ≤ W + (length xs - 1) → Decided
         (Row G ts xs i j c)
     decided_row [] i c p s v w =
         ⊎_elim

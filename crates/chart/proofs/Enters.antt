@@ -1,6 +1,6 @@
 -- A node that is written, with what then waits in its place.
 use Rattle.std.proofs.Common.{◌≡◌, ℕ, ◌-◌, ◌<◌, List, [], ◌∷◌, Some, refl, ap, ◌∙◌, subst, arith}
-use Rattle.std.specs.List.{slice_get, AllByRecursion as All}
+use Rattle.std.specs.List.{slice_get, AllByRecursion}
 use Rattle.grammar.specs.declared.rule.Symbol.{Symbol}
 use Rattle.grammar.specs.declared.rule.Symbol.TheVariants.{Terminal, Nonterminal}
 use Rattle.grammar.specs.declared.rule.Item.{Item}
@@ -31,7 +31,7 @@ module _ (G : Model) (ts : List Token) where
       omega (arith, ap (rooms G.nonterminals) w.1, nodes-some G.nonterminals (k - i) (omega arith))
 
   items-room : (items : Items) (a c i j : ℕ) (ws : List Waiting) → i < j → a < G.nonterminals
-      → All (λ x. Below G x.symbol) (listed items)
+      → AllByRecursion (λ x. Below G x.symbol) (listed items)
       → Ordered a items → Divided G ts (listed items) c i j ws → rooms G.nonterminals ws < nodes_of G.nonterminals (j - i) - a
   items-room (One x) a c i j ws l h b o (k, us, vs, e, s, w, d) =
       let n = G.nonterminals in

@@ -1,6 +1,6 @@
 -- Under a lawful grammar there is a first reading wherever there is a reading.
 use Rattle.std.proofs.Common.{◌≡◌, ℕ, zero, suc, ◌+◌, ◌-◌, ◌<◌, ◌≤◌, List, [], ◌∷◌, length, Some, None, Option, refl, ap, ◌∙◌, subst, inl, inr, ⊎_elim, arith}
-use Rattle.std.specs.List.{slice_get, AllByRecursion as All}
+use Rattle.std.specs.List.{slice_get, AllByRecursion}
 use Rattle.std.proofs.lemmas.Bool.{cases_eq}
 use Rattle.grammar.specs.declared.rule.Symbol.TheVariants.{Nonterminal}
 use Rattle.grammar.specs.declared.rule.Item.{Item}
@@ -66,7 +66,8 @@ module _ (G : Model) (ts : List Token) (law : Lawful G) where
         → (t : Tree) × First G ts t b k m d
     find_beside x p b k m d e h l w o = find b k m d (subst (Below G) e p) h (beside b k m h w) o
 
-    decided_items : (items : Items) (c : ℕ) → All (λ x. Below G x.symbol) (listed items) → Ordered A items → Decided (Row G ts (listed
+    decided_items : (items : Items) (c : ℕ) → AllByRecursion (λ x. Below G x.symbol) (listed items) → Ordered A items
+        → Decided (Row G ts (listed
         items) i j c)
     unfolding Fit
     decided_items (One x) c b o = decided_row G ts j (j - i) 0 (Fit G A) decide_alone (x ∷ []) i c ((b.0, o), tt) (omega arith) (omega
@@ -77,7 +78,8 @@ module _ (G : Model) (ts : List Token) (law : Lawful G) where
         decided_row G ts j (j - i) 1 (λ z. Below G z.symbol) decide_beside (x ∷ y ∷ z ∷ []) i c b (omega arith) (omega arith) (omega
         arith)
 
-    found-items : (items : Items) (c : ℕ) → All (λ x. Below G x.symbol) (listed items) → Ordered A items → Row G ts (listed items) i j c
+    found-items : (items : Items) (c : ℕ) → AllByRecursion (λ x. Below G x.symbol) (listed items) → Ordered A items
+        → Row G ts (listed items) i j c
         → (cs : Children) × Firsts G ts cs (listed items) i j c
     unfolding Fit
     found-items (One x) c b o r =

@@ -1,6 +1,6 @@
 -- Where items can divide tokens, first trees for them can be found, if they can be for the parts.
 use Rattle.std.proofs.Common.{◌≡◌, ℕ, suc, ◌+◌, ◌-◌, ◌<◌, ◌≤◌, List, [], ◌∷◌, length, refl, subst, inr, ⊎_elim, arith}
-use Rattle.std.specs.List.{AllByRecursion as All}
+use Rattle.std.specs.List.{AllByRecursion}
 use Rattle.std.proofs.lemmas.Bool.{cases_lt}
 use Rattle.columns.specs.Relation.{Meets}
 use Rattle.columns.specs.Mask.{Near}
@@ -45,7 +45,8 @@ module _ (G : Model) (ts : List Token) (j W slack : ℕ) (P : Item → Type 0)
       let t = find x p b i k d.0 e h (omega arith) (omega arith) (subst (λ (y : Symbol). Part G ts y i k d.0) e d.1.part) in
       (Children.tree t.0 cs, (b, k, d.0, e, s, d.1, t.1, f))
 
-  pub row_found : (xs : List Item) (i c : ℕ) → All P xs → slack ≤ 1 → j - i ≤ W → (j - i) + slack ≤ W + (length xs - 1) → Row G ts xs i j c
+  pub row_found : (xs : List Item) (i c : ℕ) → AllByRecursion P xs → slack ≤ 1 → j - i ≤ W → (j - i) + slack ≤ W + (length xs - 1)
+      → Row G ts xs i j c
       → (cs : Children) × Firsts G ts cs xs i j c
   row_found [] i c p s v w r = (Children.none, row_nil G ts i j c r)
   row_found (x ∷ xs) i c p s v w r =

@@ -83,7 +83,8 @@ module _ (G : Model) (ts : List Token) where
     first_one : (t u : Tree) (A i j c : ℕ) → First G ts t A i j c → First G ts u A i j c → t ≡ u
     first_one (Tree.node r cs) (Tree.node q ds) A i j c (l, (rule, e, f)) (m, (rule', e', g)) =
         let o : r ≡ q = least-one (λ x. ByRule G ts x A i j c) r q l.fits m.fits l.least m.least in
-        let s : rule' ≡ rule = same_some (slice_get G.rules r) rule' rule (subst (λ (x : ℕ). slice_get G.rules x ≡ Some rule') (sym o) e') e in
+        let s : rule' ≡ rule = same_some (slice_get G.rules r) rule' rule
+        (subst (λ (x : ℕ). slice_get G.rules x ≡ Some rule') (sym o) e') e in
         ap₂ Tree.node o (firsts_one cs ds (listed rule.items) i j c f
         (subst (λ (x : Rule). Firsts G ts ds (listed x.items) i j c) s g))
 

@@ -15,7 +15,8 @@ nth-map f (y ∷ xs) zero x e = let q : y ≡ x = cc in ap (λ z. Some (f z)) q
 nth-map f (y ∷ xs) (suc i) x e = nth-map f xs i x e
 
 module _ (G : Model) (ts : List Token) where
-  pub terminal_hit : (r a i j : ℕ) (t : Token) → slice_get ts i ≡ Some t → Means r (λ d. (d < 64) × (d ≡ t.column)) → j ≡ i + 1 → t.terminal ≡ a
+  pub terminal_hit : (r a i j : ℕ) (t : Token) → slice_get ts i ≡ Some t → Means r (λ d. (d < 64) × (d ≡ t.column)) → j ≡ i + 1
+      → t.terminal ≡ a
       → Means r (Part G ts (Terminal a) i j)
   terminal_hit r a i j t e m f g =
       let p = nth-map (λ (x : Token). x.terminal) ts i t e in
@@ -23,7 +24,8 @@ module _ (G : Model) (ts : List Token) where
       means_as m (λ d h. (omega arith, p ∙ ap Some g, q ∙ ap Some (sym h.1), h.0))
       (λ d h. (h.3, same_some (slice_get (columns ts) i) d t.column h.2 q))
 
-  pub terminal_miss : (a i j : ℕ) (t : Token) → slice_get ts i ≡ Some t → (j ≡ i + 1 → t.terminal ≡ a → ⊥) → Means 0 (Part G ts (Terminal a) i j)
+  pub terminal_miss : (a i j : ℕ) (t : Token) → slice_get ts i ≡ Some t → (j ≡ i + 1 → t.terminal ≡ a → ⊥)
+      → Means 0 (Part G ts (Terminal a) i j)
   terminal_miss a i j t e n =
       let p = nth-map (λ (x : Token). x.terminal) ts i t e in
       means_none (λ d h. n (omega arith) (same_some (slice_get (terminals ts) i) t.terminal a p h.1))

@@ -40,7 +40,8 @@ place_lt n a i j p h l k =
     let q : tri j + i < tri (p + 1) = omega (arith, tri_mono (j + 1) (p + 1) (omega arith), tri_suc j) in
     omega (arith, mul-add-lt (tri j + i) n a (tri (p + 1)) q h, mul_comm n (tri (p + 1)))
 
-pub place_apart : (n a i j b k m : ℕ) → a < n → b < n → i < j → k < m → cell_place n a i j ≡ cell_place n b k m → (a ≡ b) × (i ≡ k) × (j ≡ m)
+pub place_apart : (n a i j b k m : ℕ) → a < n → b < n → i < j → k < m → cell_place n a i j ≡ cell_place n b k m
+    → (a ≡ b) × (i ≡ k) × (j ≡ m)
 unfolding cell_place
 place_apart n a i j b k m h l p q e =
     let x : a ≡ b = sym (mod-mul-add (tri j + i) n a h) ∙ ap (λ z. z % n) e ∙ mod-mul-add (tri m + k) n b l in

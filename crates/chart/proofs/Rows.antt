@@ -29,7 +29,8 @@ nth-some (y ∷ xs) (suc i) x e = omega (arith, nth-some xs i x e)
 module _ (G : Model) (ts : List Token) where
   -- ---- an item
 
-  pub piece-part : (s : Symbol) (a i d : ℕ) → s ≡ Terminal a → slice_get (terminals ts) i ≡ Some a → slice_get (columns ts) i ≡ Some d → d < 64
+  pub piece-part : (s : Symbol) (a i d : ℕ) → s ≡ Terminal a → slice_get (terminals ts) i ≡ Some a
+      → slice_get (columns ts) i ≡ Some d → d < 64
       → Part G ts s i (suc i) d
   piece-part s a i d e h k l = subst (λ (x : Symbol). Part G ts x i (suc i) d) (sym e) (refl, h, k, l)
 

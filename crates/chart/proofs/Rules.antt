@@ -19,7 +19,8 @@ Rules G ts A i j n c = (r : ℕ) × (r < n) × ByRule G ts r A i j c
 module _ (G : Model) (ts : List Token) (A i j : ℕ) where
   pub rule_hit : (r : ℕ) (items : Items) → ItemsOf G ts A r (Some items) → (c : ℕ) → ByRule G ts r A i j c → Row G ts (listed items) i j c
   rule_hit r items e c x =
-      subst (λ (s : Rule). Row G ts (listed s.items) i j c) (same_some (slice_get G.rules r) x.0 record { left = A; items = items } x.1 e) x.3
+      subst (λ (s : Rule). Row G ts (listed s.items) i j c) (same_some (slice_get G.rules r) x.0 record { left = A; items = items }
+      x.1 e) x.3
 
   pub rule_miss : (r : ℕ) → ItemsOf G ts A r None → (c : ℕ) → ByRule G ts r A i j c → ⊥
   rule_miss r n c x = n x.0 x.1 x.2

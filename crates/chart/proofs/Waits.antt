@@ -1,6 +1,6 @@
 -- What waits for the items of a node: within its tokens, with fewer nodes, and with its trees below it.
 use Rattle.std.proofs.Common.{◌≡◌, ℕ, suc, ◌+◌, ◌-◌, ◌<◌, ◌≤◌, List, [], ◌∷◌, ◌++◌, map, length, sym, refl, ap, ◌∙◌, subst, append_assoc, arith}
-use Rattle.std.specs.List.{AllByRecursion as All}
+use Rattle.std.specs.List.{AllByRecursion}
 use Rattle.std.proofs.ByRecursion.{All-append}
 use Rattle.std.proofs.lemmas.List.{append-nil, map-append}
 use Rattle.columns.specs.Mask.{Near}
@@ -50,10 +50,18 @@ module _ (G : Model) (ts : List Token) where
   await_rooms n x (Nonterminal b) c i k ws h = omega (arith, ap (rooms n) h.1)
 
   await_due : (x : Item) (s : Symbol) (c i k : ℕ) (ws : List Waiting) → x.symbol ≡ s → Below G s → Within ts i k → Awaits G ts x s c i k ws
-      → All (Due G ts) ws
-  await_due x (Terminal a) c i k ws e l w h = subst (All (Due G ts)) (sym h) tt
+      → AllByRecursion (Due G ts) ws
+  await_due x (Terminal a) c i k ws e l w h = subst (AllByRecursion (Due G ts)) (sym h) tt
   await_due x (Nonterminal b) c i k ws e l w (d, h, m) =
-      subst (All (Due G ts)) (sym h) (record { low = l; within = w; some = subst (λ (y : Symbol). Part G ts y i k d) e m.part }, tt)
+      subst (AllByRecursion (Due G ts)) (sym h) (
+        record {
+          low = l;
+          within = w;
+          some = subst (λ (y : Symbol). Part G ts y i k d) e
+              m.part;
+        },
+        tt,
+      )
 
   -- ---- a row of items
 
@@ -68,13 +76,13 @@ module _ (G : Model) (ts : List Token) where
       let q = divided_covered xs c k j vs h in
       omega (arith, ap covered e, covered-append us vs)
 
-  pub divided_due : (xs : List Item) (c i j : ℕ) (ws : List Waiting) → All (λ x. Below G x.symbol) xs → j ≤ length ts
+  pub divided_due : (xs : List Item) (c i j : ℕ) (ws : List Waiting) → AllByRecursion (λ x. Below G x.symbol) xs → j ≤ length ts
       → Divided G ts xs c i j ws
-      → All (Due G ts) ws
-  divided_due [] c i j ws b n h = subst (All (Due G ts)) (sym h.1) tt
+      → AllByRecursion (Due G ts) ws
+  divided_due [] c i j ws b n h = subst (AllByRecursion (Due G ts)) (sym h.1) tt
   divided_due (x ∷ xs) c i j ws b n (k, us, vs, e, s, a, h) =
       let l = short-first x xs i j c k s in
-      subst (All (Due G ts)) (sym e)
+      subst (AllByRecursion (Due G ts)) (sym e)
       (All-append (Due G ts) us vs (await_due x x.symbol c i k us refl b.0 (l.0, omega arith) a)
       (divided_due xs c k j vs b.1 n h))
 
@@ -101,7 +109,7 @@ module _ (G : Model) (ts : List Token) where
 
   -- the nodes are those of the children
   Under : List Node → Children → Type 0
-  Under ns cs = (map (λ n. n.rule) ns ≡ preorders cs) × All (Tells G) ns
+  Under ns cs = (map (λ n. n.rule) ns ≡ preorders cs) × AllByRecursion (Tells G) ns
 
   item-written : (x : Item) (xs : List Item) (s : Symbol) (c i k j : ℕ) (us : List Waiting) (ps qs : List Node) (cs : Children)
       → x.symbol ≡ s
@@ -114,7 +122,7 @@ module _ (G : Model) (ts : List Token) where
       let z : ps ≡ [] = subst (λ (y : List Waiting). Rest G ts y ps) w r in (
         Children.piece cs,
         (a, e, subst (λ (m : ℕ). Shortest G ts x xs i j c m) o s, subst (λ (m : ℕ). Firsts G ts cs xs m j c) o f),
-        subst (λ (y : List Node). (map (λ n. n.rule) (y ++ qs) ≡ preorders cs) × All (Tells G) (y ++ qs)) (sym z) u,
+        subst (λ (y : List Node). (map (λ n. n.rule) (y ++ qs) ≡ preorders cs) × AllByRecursion (Tells G) (y ++ qs)) (sym z) u,
       )
   item-written x xs (Nonterminal b) c i k j us ps qs cs e s (d, w, l) r f u =
       let q = subst (λ (y : List Waiting). Rest G ts y ps) w r in
@@ -122,19 +130,20 @@ module _ (G : Model) (ts : List Token) where
       let t = q.3 in (
         Children.tree t.0 cs,
         (b, k, d, e, s, l, t.1, f),
-        subst (λ (y : List Node). (map (λ n. n.rule) (y ++ qs) ≡ preorder t.0 ++ preorders cs) × All (Tells G) (y ++ qs)) (sym z) (
-          map-append (λ (n : Node). n.rule) q.0 qs ∙ ap (λ (y : List ℕ). y ++ map (λ (n : Node). n.rule) qs) t.2.numbers
-              ∙ ap (λ (y : List ℕ). preorder t.0 ++ y) u.0,
-          All-append (Tells G) q.0 qs t.2.told u.1,
-        ),
+        subst (λ (y : List Node). (map (λ n. n.rule) (y ++ qs) ≡ preorder t.0 ++ preorders cs) × AllByRecursion (Tells G) (y ++ qs))
+            (sym z) (
+              map-append (λ (n : Node). n.rule) q.0 qs ∙ ap (λ (y : List ℕ). y ++ map (λ (n : Node). n.rule) qs) t.2.numbers
+                  ∙ ap (λ (y : List ℕ). preorder t.0 ++ y) u.0,
+              All-append (Tells G) q.0 qs t.2.told u.1,
+            ),
       )
 
   pub divided_written : (xs : List Item) (c i j : ℕ) (ws : List Waiting) (ns : List Node) → Divided G ts xs c i j ws → Rest G ts ws ns
-      → (cs : Children) × Firsts G ts cs xs i j c × (map (λ n. n.rule) ns ≡ preorders cs) × All (Tells G) ns
+      → (cs : Children) × Firsts G ts cs xs i j c × (map (λ n. n.rule) ns ≡ preorders cs) × AllByRecursion (Tells G) ns
   unfolding Under
   divided_written [] c i j ws ns h r =
       let z : ns ≡ [] = subst (λ (y : List Waiting). Rest G ts y ns) h.1 r in
-      (Children.none, h.0, ap (map (λ (n : Node). n.rule)) z, subst (All (Tells G)) (sym z) tt)
+      (Children.none, h.0, ap (map (λ (n : Node). n.rule)) z, subst (AllByRecursion (Tells G)) (sym z) tt)
   divided_written (x ∷ xs) c i j ws ns (k, us, vs, e, s, a, h) r =
       let q = rest-append us vs ns (subst (λ (y : List Waiting). Rest G ts y ns) e r) in
       let u = divided_written xs c k j vs q.1 h q.4 in
@@ -142,5 +151,5 @@ module _ (G : Model) (ts : List Token) where
         o.0,
         o.1,
         subst (λ (y : List Node). map (λ (n : Node). n.rule) y ≡ preorders o.0) (sym q.2) o.2.0,
-        subst (All (Tells G)) (sym q.2) o.2.1,
+        subst (AllByRecursion (Tells G)) (sym q.2) o.2.1,
       )

@@ -1,7 +1,7 @@
 -- The walk that writes the first tree, node by node.
 use Rattle.std.proofs.Common.{◌≡◌, ℕ, ◌+◌, ◌-◌, ◌<◌, ◌≤◌, List, [], ◌∷◌, ◌++◌, length, drop, set, sym, refl, ap, ◌∙◌, subst, append_assoc, arith, length-append}
 use lib.Seq.{set-append_seam}
-use Rattle.std.specs.List.{AllByRecursion as All}
+use Rattle.std.specs.List.{AllByRecursion}
 use Rattle.std.proofs.ByRecursion.{All-append}
 use Rattle.std.proofs.lemmas.List.{append-nil, drop_more}
 use Rattle.grammar.specs.Model.{Model}
@@ -15,7 +15,7 @@ use Rattle.chart.proofs.Waits.{covered-append, rooms-append, rest-append}
 -- `done` is written in front of what `old` had, and with the nodes of all that waits it is the first tree for `top`
 pub record Walking (G : Model) (ts : List Token) (top : Waiting) (old : List Node) (ws : List Waiting) (count : ℕ)
     (now : List Node) : Type 0 where
-  pub due : All (Due G ts) ws
+  pub due : AllByRecursion (Due G ts) ws
   pub short : covered ws ≤ length ts
   pub room : count + rooms G.nonterminals ws ≤ length old
   pub done : List Node
@@ -24,7 +24,7 @@ pub record Walking (G : Model) (ts : List Token) (top : Waiting) (old : List Nod
   pub writes : (ns : List Node) → Rest G ts ws ns → Writes G ts top (done ++ ns)
 
 module _ (G : Model) (ts : List Token) where
-  pub few_wait : (ws : List Waiting) → All (Due G ts) ws → length ws ≤ covered ws
+  pub few_wait : (ws : List Waiting) → AllByRecursion (Due G ts) ws → length ws ≤ covered ws
   few_wait [] h = omega arith
   few_wait (w ∷ ws) h = omega (arith, h.0.within.0, few_wait ws h.1)
 

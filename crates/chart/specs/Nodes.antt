@@ -3,7 +3,7 @@
 --   Tells      a node record tells the left symbol and the shape of its rule
 --   Holds      node records are those of the tree, in preorder
 use Rattle.std.specs.Prelude.{◌≡◌, List, map, Some}
-use Rattle.std.specs.List.{slice_get, AllByRecursion as All}
+use Rattle.std.specs.List.{slice_get, AllByRecursion}
 use Rattle.grammar.specs.declared.rule.Items.{Items}
 use Rattle.grammar.specs.declared.rule.Items.TheVariants as items
 use Rattle.grammar.specs.declared.rule.Rule.{Rule}
@@ -26,4 +26,4 @@ pub record Tells (G : Model) (n : Node) : Type 0 where
 
 pub record Holds (G : Model) (ns : List Node) (t : Tree) : Type 0 where
   pub numbers : map (λ n. n.rule) ns ≡ preorder t
-  pub told : All (Tells G) ns
+  pub told : AllByRecursion (Tells G) ns

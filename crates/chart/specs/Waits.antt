@@ -11,7 +11,7 @@
 --   whole     what waits at the start: a tree with that nonterminal and column on top over all tokens
 --   Wrote     the nodes of the first tree stand in front, and behind them all is as it was
 use Rattle.std.specs.Prelude.{◌≡◌, ℕ, ◌+◌, ◌-◌, ◌<◌, ◌≤◌, List, [], ◌∷◌, ◌++◌, length, drop}
-use Rattle.std.specs.List.{AllByRecursion as All}
+use Rattle.std.specs.List.{AllByRecursion}
 use Rattle.grammar.specs.declared.rule.Symbol.{Symbol}
 use Rattle.grammar.specs.declared.rule.Symbol.TheVariants.{Terminal, Nonterminal}
 use Rattle.grammar.specs.declared.rule.Item.{Item}
@@ -61,7 +61,7 @@ abbrev pub Adds : List Waiting → List Waiting → (List Waiting → Type 0) �
 Adds old new P = (ws : List Waiting) × (new ≡ ws ++ old) × P ws
 
 pub record Entered (G : Model) (ts : List Token) (w : Waiting) (n : Node) (ws : List Waiting) : Type 0 where
-  pub due : All (Due G ts) ws
+  pub due : AllByRecursion (Due G ts) ws
   pub short : covered ws ≤ w.to - w.from
   pub room : rooms G.nonterminals ws < rooms G.nonterminals (w ∷ [])
   pub writes : (ns : List Node) → Rest G ts ws ns → Writes G ts w (n ∷ ns)

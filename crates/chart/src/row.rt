@@ -1,5 +1,5 @@
 ghost use Rattle.std.specs.Prelude.{[], ◌∷◌};
-ghost use Rattle.std.specs.List.{AllByRecursion as All};
+ghost use Rattle.std.specs.List.{AllByRecursion};
 ghost use Rattle.columns.specs.Mask.{Means};
 ghost use Rattle.grammar.specs.Model.{listed};
 ghost use Rattle.grammar.specs.Lawful.{Below, Ordered};
@@ -67,7 +67,7 @@ impl<G: Grammar> Chart<'_, '_, G> {
     pub(crate) fn row(&self, items: Items, a: u8, i: usize, j: usize) -> u64
         requires ready { Ready G.model self.now }
         requires within { Within self.now.tokens.now i j }
-        requires below { All (λ x. Below (G.model self.now.grammar.now) x.symbol) (listed items) }
+        requires below { AllByRecursion (λ x. Below (G.model self.now.grammar.now) x.symbol) (listed items) }
         requires ordered { Ordered a items }
         requires inner { inside G.model self.now Inner i j }
         requires upper { inside G.model self.now Upper a i j }

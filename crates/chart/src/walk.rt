@@ -1,5 +1,5 @@
 ghost use Rattle.std.specs.Prelude.{◌≡◌, ◌+◌, ◌-◌, ◌<◌, ◌≤◌, length};
-ghost use Rattle.std.specs.List.{AllByRecursion as All};
+ghost use Rattle.std.specs.List.{AllByRecursion};
 ghost use Rattle.columns.specs.Mask.{Near};
 ghost use Rattle.grammar.specs.Model.{listed};
 ghost use Rattle.grammar.specs.Lawful.{Below};
@@ -62,7 +62,7 @@ impl<G: Grammar> Chart<'_, '_, G> {
         requires ready { Ready G.model self.now }
         requires filled { Filled G.model self.now }
         requires within { Within self.now.tokens.now i j }
-        requires below { All (λ x. Below (G.model self.now.grammar.now) x.symbol) (listed items) }
+        requires below { AllByRecursion (λ x. Below (G.model self.now.grammar.now) x.symbol) (listed items) }
         requires some { under G.model self.now Row (listed items) i j column }
         requires free { length (waiting stack.old) + (j - i) ≤ 128 }
         ensures { Adds (waiting stack.old) (waiting stack.new)

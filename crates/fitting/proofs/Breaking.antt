@@ -36,7 +36,8 @@ next-piece line (b ∷ bs) a l after =
     ∙ ap (λ (m : Line). Some (placed m a.column)) (asked_more line b.breaks (asks (bs ++ a ∷ [])))
 
 later-piece : (line : Line) (before : List Turn) (b : Answer) (m : ℕ) (rest : List Turn)
-    → slice_get (placements line (before ++ Turn.piece b m ∷ rest)) (suc (pieces before)) ≡ slice_get (placements (behind b.column m) rest) 0
+    → slice_get (placements line (before ++ Turn.piece b m ∷ rest)) (suc (pieces before)) ≡ slice_get
+    (placements (behind b.column m) rest) 0
 later-piece line [] b m rest = refl
 later-piece line (Turn.node a ∷ before) b m rest = later-piece (asked line a.breaks) before b m rest
 later-piece line (Turn.piece a l ∷ before) b m rest = later-piece (behind a.column l) before b m rest

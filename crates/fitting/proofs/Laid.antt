@@ -1,6 +1,6 @@
 -- What laying out gives meets the relations of the items to come.
 use Rattle.std.proofs.Common.{◌≡◌, ℕ, zero, suc, ◌+◌, ◌≤◌, List, [], ◌∷◌, drop, Some, Ok, Err, Result, sym, refl, ap, ◌∙◌, subst, arith}
-use Rattle.std.specs.List.{slice_get, AllByRecursion as All}
+use Rattle.std.specs.List.{slice_get, AllByRecursion}
 use Rattle.std.proofs.ByRecursion.{All-append}
 use Rattle.columns.specs.declared.relation.Relation.{Relation}
 use Rattle.columns.specs.declared.relation.Relation.TheVariants.{Equal, Above, AtLeast, Any}
@@ -35,7 +35,7 @@ prefixed_ok p (Err f) ps e = let z : ◌≡◌ {A = ℕ} 0 1 = cc in absurd (ome
 abbrev pub Low : Slot → Type 0
 Low s = s.column ≤ 63
 
-pub slots-low : (r c k : ℕ) (xs : List Item) → c ≤ 63 → All Low (slots r c k xs)
+pub slots-low : (r c k : ℕ) (xs : List Item) → c ≤ 63 → AllByRecursion Low (slots r c k xs)
 slots-low r c k [] h = tt
 slots-low r c k (x ∷ xs) h = (h, slots-low r c (k + 1) xs h)
 
@@ -54,7 +54,7 @@ module _ (G : Model) (P : Question → Answer) (obeys : Obeys P) where
 
   pub lays_met : (ds : List ℕ) {line : Line} {ss : List Slot} {rs ls : List ℕ} {out : Result (List Placement) Fault}
       → Lays G P line ss rs ls out → (i : ℕ) (ps : List Placement) → out ≡ Ok ps → drop i ds ≡ columns_of ps → line.cursor ≤ 96
-      → Short ls → All Low ss → Met G ds ss rs i
+      → Short ls → AllByRecursion Low ss → Met G ds ss rs i
   lays_met ds end i ps e at near short low = Met.end
   lays_met ds (deep high) i ps e at near short low = let z : ◌≡◌ {A = ℕ} 0 1 = cc in absurd (omega arith)
   lays_met ds {line = line} (piece {s = s} {l = l} {a = a} {out = out} is shallow symbol rest all) i ps e at near (h, short) (c, low) =

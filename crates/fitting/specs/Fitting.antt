@@ -7,7 +7,7 @@
 --   Fitting      some columns from 0 to 63, one for each node and piece, meet all relations of the tree
 --   Fittable     the same of the tree that rule numbers give over terminals
 use Rattle.std.specs.Prelude.{◌≡◌, ℕ, ◌≤◌, List, map, length}
-use Rattle.std.specs.List.{AllByRecursion as All}
+use Rattle.std.specs.List.{AllByRecursion}
 use Rattle.grammar.specs.Model.{Model}
 use Rattle.policy.specs.declared.question.Question.{Question}
 use Rattle.policy.specs.declared.question.Answer.{Answer}
@@ -22,7 +22,7 @@ abbrev pub Obeys : (Question → Answer) → Type 0
 Obeys P = (q : Question) → q.column ≤ 63 → q.cursor ≤ 96 → Keeps q (P q)
 
 abbrev pub Short : List ℕ → Type 0
-Short ls = All (λ (l : ℕ). l ≤ 32) ls
+Short ls = AllByRecursion (λ (l : ℕ). l ≤ 32) ls
 
 abbrev pub columns_of : List Placement → List ℕ
 columns_of ps = map (λ (p : Placement). p.column) ps

@@ -31,7 +31,8 @@ module _ (ts : List Token) (i : ℕ) (h : i < length ts) where
   -- the next token's bytes behind those so far
   pub loaded_more : (text memory new : List ℕ) (end k : ℕ) → Inside text ts → end ≤ length memory
       → take end memory ≡ bytes_of text (take i ts)
-      → new ≡ take ((get_or ts i blank).start + (get_or ts i blank).length - (get_or ts i blank).start) (drop (get_or ts i blank).start text)
+      → new ≡ take ((get_or ts i blank).start + (get_or ts i blank).length - (get_or ts i blank).start)
+      (drop (get_or ts i blank).start text)
       → take (end + (get_or ts i blank).length) (put_mid end k memory new) ≡ bytes_of text (take (i + 1) ts)
   loaded_more text memory new end k all fits before is =
       let t = get_or ts i blank in

@@ -1,6 +1,6 @@
 -- Node records that a grammar tells of a tree have the shapes of that tree.
 use Rattle.std.proofs.Common.{◌≡◌, ℕ, suc, ◌+◌, true, false, List, [], ◌∷◌, ◌++◌, map, length, Some, Option, sym, refl, ap, ◌∙◌, subst, arith}
-use Rattle.std.specs.List.{slice_get, AllByRecursion as All}
+use Rattle.std.specs.List.{slice_get, AllByRecursion}
 use Rattle.std.proofs.lemmas.List.{append-nil, length-map, map-append}
 use Rattle.grammar.specs.declared.rule.Child.{Child}
 use Rattle.grammar.specs.declared.rule.Child.TheVariants.{Piece, Node as Below}
@@ -39,7 +39,7 @@ same-rule o a b p q = cc
 
 module _ (G : Model) where
   pub forest_shaped : {xs : List Item} {rs ts : List ℕ} → Forest G xs rs ts → (ns : List Node) → map (λ (n : Node). n.rule) ns ≡ rs
-      → All (Tells G) ns → Shaped (covered xs) ns (length ts)
+      → AllByRecursion (Tells G) ns → Shaped (covered xs) ns (length ts)
   forest_shaped Forest.none [] e told = Shaped.none
   forest_shaped Forest.none (n ∷ ns) e told = let z : ◌≡◌ {A = ℕ} 0 1 = cc in absurd (omega arith)
   forest_shaped (Forest.piece {x = x} {xs = xs} {ts = ts} s f) ns e told =
@@ -72,7 +72,7 @@ abbrev top_item : ℕ → Item
 top_item a = record { symbol = Nonterminal a; relation = Any; mark = false }
 
 pub tree_shaped : (G : Model) (rs ts : List ℕ) (ns : List Node) → numbers.Tree G rs ts → map (λ (n : Node). n.rule) ns ≡ rs
-    → All (Tells G) ns → Shaped tree ns (length ts)
+    → AllByRecursion (Tells G) ns → Shaped tree ns (length ts)
 tree_shaped G [] ts ns t e told = absurd t
 tree_shaped G (r ∷ rs) ts ns (rule, known, f) e told =
     let g = subst (λ (xs : List Item). Forest G xs rs ts) (sym (append-nil (listed rule.items))) f in

@@ -118,8 +118,22 @@ took_over G symbol cells text ts list h k same inside few bytes pieces read used
 refused_by : (o : Option Fault) (G : Model) (A : ℕ) (text : List ℕ) (ts : List Token) (h : Held) (t : Store Node) (f : Fault)
     → Read o G A ts h.nodes (Err f) t
     → Took o G A text ts h (Err f) (record { bytes = h.bytes; pieces = h.pieces; nodes = t }) × (t ≡ h.nodes)
-refused_by (Some e) G A text ts h t f (is, same) = ((is, ap (λ (u : Store Node). record { bytes = h.bytes; pieces = h.pieces; nodes = u }) same), same)
-refused_by None G A text ts h t f (at, same) = ((at, ap (λ (u : Store Node). record { bytes = h.bytes; pieces = h.pieces; nodes = u }) same), same)
+refused_by (Some e) G A text ts h t f (is, same) = (
+  (
+    is,
+    ap (λ (u : Store Node). record
+        { bytes = h.bytes; pieces = h.pieces; nodes = u }) same,
+  ),
+  same,
+)
+refused_by None G A text ts h t f (at, same) = (
+  (
+    at,
+    ap (λ (u : Store Node). record
+        { bytes = h.bytes; pieces = h.pieces; nodes = u }) same,
+  ),
+  same,
+)
 
 pub not_taken : (G : Model) (symbol cells : ℕ) (text : List ℕ) (ts list : List Token) (h : Held) (t : Store Node) (f : Fault) → list ≡ ts
     → Sound h → OneTree h → byte_count list ≤ room h.bytes → length list ≤ room h.pieces

@@ -5,7 +5,7 @@
 --   record_of   the record of a token's piece
 --   Inside      every token lies within its text
 use Rattle.std.specs.Prelude.{ℕ, ◌+◌, ◌≤◌, false, List, map, length, take, drop, sum_by}
-use Rattle.std.specs.List.{flat_map, AllByRecursion as All}
+use Rattle.std.specs.List.{flat_map, AllByRecursion}
 use Rattle.text.specs.declared.token.Token.{Token}
 use Rattle.tree.specs.declared.piece.PieceRecord.{PieceRecord}
 
@@ -29,4 +29,4 @@ abbrev pub InText : List ℕ → Token → Type 0
 InText text t = (t.length ≤ 32) × (t.start + t.length ≤ length text)
 
 abbrev pub Inside : List ℕ → List Token → Type 0
-Inside text ts = All (InText text) ts
+Inside text ts = AllByRecursion (InText text) ts

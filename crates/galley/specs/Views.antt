@@ -13,7 +13,8 @@ pub record Unchanged (x y : Galley) : Type 0 where
   pub laid : y.laid ≡ x.laid
 
 -- nothing is held, in these memories
-pub record Empty (number : ℕ) (bytes : MutBor (List ℕ)) (pieces : MutBor (List PieceRecord)) (nodes : MutBor (List Node)) (x : Galley) : Type 0
+pub record Empty (number : ℕ) (bytes : MutBor (List ℕ)) (pieces : MutBor (List PieceRecord)) (nodes : MutBor (List Node))
+    (x : Galley) : Type 0
   where
     pub is : x.number ≡ number
     pub byte_memory : x.held.bytes.memory ≡ bytes

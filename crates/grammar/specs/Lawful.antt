@@ -9,7 +9,7 @@
 --   Proper       a rule has a left symbol and items of the grammar, and is ordered
 --   Lawful       limits on the counts, no class and no spelling twice, every terminal well formed and every rule proper
 use Rattle.std.specs.Prelude.{◌≡◌, ℕ, ◌<◌, ◌≤◌, Bool, true, false, ◌&&◌, ◌||◌, List, [], ◌∷◌, length, Some}
-use Rattle.std.specs.List.{slice_get, AllByRecursion as All}
+use Rattle.std.specs.List.{slice_get, AllByRecursion}
 use Rattle.pieces.specs.declared.piece.Class.TheVariants.{Name, Number, Quote, Sign}
 use Rattle.pieces.specs.Kinds.{letter, sign, goes_on}
 use Rattle.grammar.specs.declared.rule.Symbol.{Symbol}
@@ -54,7 +54,7 @@ WellFormed (word w) = (length w ≤ 12) × ((one_name w || one_sign w) ≡ true)
 
 pub record Proper (G : Model) (rule : Rule) : Type 0 where
   pub left : rule.left < G.nonterminals
-  pub below : All (λ x. Below G x.symbol) (listed rule.items)
+  pub below : AllByRecursion (λ x. Below G x.symbol) (listed rule.items)
   pub ordered : Ordered rule.left rule.items
 
 pub record Lawful (G : Model) : Type 0 where

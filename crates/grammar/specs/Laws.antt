@@ -1,7 +1,7 @@
 -- The block language keeps the law of grammars.
 use Rattle.std.specs.Prelude.{◌≡◌, ℕ, zero, suc, List, [], ◌∷◌, Some, Option, refl}
 use Rattle.std.proofs.Common.{subst, arith, lit≤, rules}
-use Rattle.std.specs.List.{slice_get, AllByRecursion as All}
+use Rattle.std.specs.List.{slice_get, AllByRecursion}
 use Rattle.grammar.specs.Model.{Terminal, class, word, first_with, spelled, classed}
 use Rattle.grammar.specs.Lawful.{Lawful, Proper, WellFormed}
 use Rattle.grammar.specs.Block.{block, terminals, rules as lines}
@@ -16,7 +16,7 @@ each_nth P [] k x h e = absurd (let z : ◌≡◌ {A = ℕ} 0 1 = cc in omega ar
 each_nth P (y ∷ ys) zero x h e = let q : y ≡ x = cc in subst (P 0) q h.0
 each_nth P (y ∷ ys) (suc k) x h e = each_nth (λ j. P (suc j)) ys k x h.1 e
 
-pub all-nth : {X : Type 0} (P : X → Type 0) (xs : List X) (k : ℕ) (x : X) → All P xs → slice_get xs k ≡ Some x → P x
+pub all-nth : {X : Type 0} (P : X → Type 0) (xs : List X) (k : ℕ) (x : X) → AllByRecursion P xs → slice_get xs k ≡ Some x → P x
 all-nth P [] k x h e = absurd (let z : ◌≡◌ {A = ℕ} 0 1 = cc in omega arith)
 all-nth P (y ∷ ys) zero x h e = let q : y ≡ x = cc in subst P q h.0
 all-nth P (y ∷ ys) (suc k) x h e = all-nth P ys k x h.1 e
@@ -29,10 +29,10 @@ number_of (word w) = first_with (spelled w) terminals
 numbered : Each (λ k t. number_of t ≡ Some k) terminals
 numbered = (refl, (refl, (refl, (refl, (refl, (refl, (refl, tt)))))))
 
-well_formed : All WellFormed terminals
+well_formed : AllByRecursion WellFormed terminals
 well_formed = search rules
 
-proper : All (Proper block) lines
+proper : AllByRecursion (Proper block) lines
 proper = search rules
 
 pub lawful : Lawful block

@@ -6,7 +6,7 @@
 --   NoPiece   what follows is neither a space nor a line end, and no piece begins it
 --   Cut       a text falls into these pieces, or is stuck at that place
 use Rattle.std.specs.Prelude.{◌≡◌, ℕ, ◌+◌, Bool, true, false, List, [], ◌∷◌, ◌++◌, length, ◌≢◌}
-use Rattle.std.specs.List.{AllByRecursion as All}
+use Rattle.std.specs.List.{AllByRecursion}
 use Rattle.pieces.specs.declared.piece.Class.{Class}
 use Rattle.pieces.specs.declared.piece.Class.TheVariants.{Name, Number, Quote, Sign}
 use Rattle.pieces.specs.Kinds.{letter, digit, sign, goes_on, quotable}
@@ -39,7 +39,7 @@ Begins test (b ∷ bs) = test b ≡ true
 
 -- every byte passes the test
 abbrev pub Passes : (ℕ → Bool) → List ℕ → Type 0
-Passes test bs = All (λ b. test b ≡ true) bs
+Passes test bs = AllByRecursion (λ b. test b ≡ true) bs
 
 -- the first byte, if there is one, fails the test
 abbrev pub Stops : (ℕ → Bool) → List ℕ → Type 0

@@ -11,7 +11,8 @@ name_begun [] h = let z : ◌≡◌ {A = ℕ} 0 1 = cc in absurd (omega arith)
 name_begun (b ∷ s) h =
     ap (λ (t : List ℕ). every goes_on t) (take_rest (b ∷ s) 1) ∙ sym (ap (λ v. v && every goes_on s) h)
 
-pub capital_begun : (s : List ℕ) → within 65 90 (get_or s 0 0) ≡ true → every letter_or_digit (take (length s - 1) (drop 1 s)) ≡ capitalized s
+pub capital_begun : (s : List ℕ) → within 65 90 (get_or s 0 0) ≡ true
+    → every letter_or_digit (take (length s - 1) (drop 1 s)) ≡ capitalized s
 capital_begun [] h = let z : ◌≡◌ {A = ℕ} 0 1 = cc in absurd (omega arith)
 capital_begun (b ∷ s) h =
     ap (λ (t : List ℕ). every letter_or_digit t) (take_rest (b ∷ s) 1) ∙ sym (ap (λ v. v && every letter_or_digit s) h)

@@ -1,6 +1,6 @@
 -- The rules of numbered lines are in the bounds of their names and terminals.
 use Rattle.std.proofs.Common.{◌≡◌, ℕ, ◌<◌, Bool, true, not, List, [], ◌∷◌, ◌++◌, map, length, sym, refl, ◌∙◌, subst, arith}
-use Rattle.std.specs.List.{list_all, flat_map, AllByRecursion as All}
+use Rattle.std.specs.List.{list_all, flat_map, AllByRecursion}
 use Rattle.std.proofs.lemmas.List.Sums.{prefix_len-le-length}
 use Rattle.std.proofs.lemmas.Bool.{and_from, lt-ltb}
 use Rattle.grammar.specs.Model.{Terminal}
@@ -31,7 +31,7 @@ Low N T s = below (length N) (length T) (symbol_by N T s) ≡ true
 
 symbols-low : (ns : List (List ℕ)) (ts : List Terminal) (ss : List Called) (ms : List (List ℕ)) (us : List Terminal)
     (N : List (List ℕ)) (T : List Terminal)
-    → gathered same_name ns (names_among ss ++ ms) ≡ N → gathered alike ts (terminals_among ss ++ us) ≡ T → All (Low N T) ss
+    → gathered same_name ns (names_among ss ++ ms) ≡ N → gathered alike ts (terminals_among ss ++ us) ≡ T → AllByRecursion (Low N T) ss
 symbols-low ns ts [] ms us N T a b = tt
 symbols-low ns ts (nonterminal w ∷ ss) ms us N T a b = (
   lt-ltb (place (same_name w) N) (length N) (found_in same_name ns w (names_among ss ++ ms) N (same_name_itself w) a),
@@ -42,7 +42,7 @@ symbols-low ns ts (terminal t ∷ ss) ms us N T a b = (
   symbols-low ns (with_new alike ts t) ss ms us N T a b,
 )
 
-items-low : (N : List (List ℕ)) (T : List Terminal) (s : Several) → All (Low N T) (symbols s) → all_below (length N) (length T)
+items-low : (N : List (List ℕ)) (T : List Terminal) (s : Several) → AllByRecursion (Low N T) (symbols s) → all_below (length N) (length T)
     (items_by N T s) ≡ true
 items-low N T (one x) h = h.0
 items-low N T (two x y) h = and_from _ _ h.0 h.1.0

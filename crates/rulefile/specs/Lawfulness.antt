@@ -2,7 +2,7 @@
 use Rattle.std.specs.Prelude.{◌≡◌, ℕ, zero, suc, Bool, true, not, List, [], ◌∷◌, length, take, Some, None, Option, refl}
 use Rattle.std.proofs.Common.{sym, ap, subst, ◌∙◌, arith}
 use Rattle.std.specs.Option.{option_map}
-use Rattle.std.specs.List.{slice_get, list_all, AllByRecursion as All}
+use Rattle.std.specs.List.{slice_get, list_all, AllByRecursion}
 use Rattle.std.proofs.lemmas.List.{length-take, length-take-le}
 use Rattle.std.proofs.lemmas.Bool.{and_parts, ltb-true, not-true, both_ways}
 use Rattle.grammar.specs.declared.rule.Symbol.{Symbol}
@@ -67,7 +67,7 @@ low G (symbol.Terminal k) h = ltb-true k (length G.terminals) h
 low G (symbol.Nonterminal a) h = ltb-true a G.nonterminals h
 
 all-low : (G : model.Model) (items : Items) → all_below G.nonterminals (length G.terminals) items ≡ true
-    → All (λ x. Below G x.symbol) (model.listed items)
+    → AllByRecursion (λ x. Below G x.symbol) (model.listed items)
 all-low G (One x) h = (low G x.symbol h, tt)
 all-low G (Two x y) h = let p = and_parts _ _ h in (low G x.symbol p.0, (low G y.symbol p.1, tt))
 all-low G (Three x y z) h =

@@ -16,7 +16,8 @@ pub data Shaped : List Child → List NodeRecord → ℕ → Type 0 where
 pub data Passes : List Child → List NodeRecord → ℕ → List Child → Type 0 where
   here : {cs : List Child} → Passes (Node ∷ cs) [] 0 cs
   piece : {cs ds : List Child} {ns : List NodeRecord} {p : ℕ} → Passes cs ns p ds → Passes (Piece ∷ cs) ns (suc p) ds
-  node : {cs ds : List Child} {n : NodeRecord} {ns : List NodeRecord} {p : ℕ} → Passes (under n ++ cs) ns p ds → Passes (Node ∷ cs) (n ∷ ns) p ds
+  node : {cs ds : List Child} {n : NodeRecord} {ns : List NodeRecord} {p : ℕ} → Passes (under n ++ cs) ns p ds
+      → Passes (Node ∷ cs) (n ∷ ns) p ds
 
 -- one node with all that is below it
 abbrev pub tree : List Child

@@ -1,6 +1,6 @@
 -- The tokens of an accepted text are pieces by themselves.
 use Rattle.std.proofs.Common.{◌≡◌, ℕ, ◌+◌, true, false, cond, List, [], ◌∷◌, map, length, take, drop, Some, None, Option, sym, refl, ap, ◌∙◌, subst, inl, inr, arith}
-use Rattle.std.specs.List.{flat_map, AllByRecursion as All}
+use Rattle.std.specs.List.{flat_map, AllByRecursion}
 use Rattle.std.specs.Option.{option_map, option_to_list}
 use Rattle.std.proofs.ByRecursion.{All-append, All-weaker}
 use Rattle.std.proofs.lemmas.List.{take_at, drop_at, drop-drop, length-take-le, length-drop}
@@ -21,7 +21,7 @@ abbrev pub InPlace : List ℕ → Found → Type 0
 InPlace text x = take (length x.bytes) (drop x.place.offset text) ≡ x.bytes
 
 pub in_place : {p q : Place} {s t : List ℕ} {ps : List Found} (text : List ℕ) → Reads p s ps q t → drop p.offset text ≡ s
-    → All (InPlace text) ps
+    → AllByRecursion (InPlace text) ps
 in_place text Reads.here e = tt
 in_place {p} text (Reads.line is h) e = in_place text h (sym (drop-drop 1 p.offset text) ∙ ap (drop 1) (e ∙ is))
 in_place {p} text (Reads.space is h) e = in_place text h (sym (drop-drop 1 p.offset text) ∙ ap (drop 1) (e ∙ is))
@@ -30,7 +30,7 @@ in_place {p} text (Reads.piece {w = w} {s = s} is f h) e =
     let rest : drop (p.offset + n) text ≡ s = sym (drop-drop n p.offset text) ∙ ap (drop n) (e ∙ is) ∙ drop_at w s n refl in
     (ap (take n) (e ∙ is) ∙ take_at w s n refl, in_place text h rest)
 
-found-alone : {p q : Place} {s t : List ℕ} {ps : List Found} → Reads p s ps q t → All (λ x. one_piece x.bytes ≡ true) ps
+found-alone : {p q : Place} {s t : List ℕ} {ps : List Found} → Reads p s ps q t → AllByRecursion (λ x. one_piece x.bytes ≡ true) ps
 found-alone Reads.here = tt
 found-alone (Reads.line is h) = found-alone h
 found-alone (Reads.space is h) = found-alone h
@@ -41,14 +41,17 @@ abbrev pub OnePiece : List ℕ → Token → Type 0
 OnePiece text t = one_piece (take t.length (drop t.start text)) ≡ true
 
 token-alone : (text : List ℕ) (x : Found) (o : Option ℕ) → InPlace text x → one_piece x.bytes ≡ true
-    → All (OnePiece text) (option_to_list (token_with x o))
-token-alone text x o at one = elim (out_of_bounds x) as (λ b. All (OnePiece text) (option_to_list (cond b None (option_map (token x) o)))) [
-  | true ↦ tt
-  | false ↦ elim o as (λ v. All (OnePiece text) (option_to_list (option_map (token x) v))) [ None ↦ tt | Some t ↦ (ap one_piece at ∙ one, tt) ]
-]
+    → AllByRecursion (OnePiece text) (option_to_list (token_with x o))
+token-alone text x o at one = elim (out_of_bounds x) as (λ b. AllByRecursion (OnePiece text)
+    (option_to_list (cond b None (option_map (token x) o)))) [
+      | true ↦ tt
+      | false ↦ elim o as (λ v. AllByRecursion (OnePiece text) (option_to_list (option_map (token x) v)))
+          [ None ↦ tt | Some t ↦ (ap one_piece at ∙ one, tt) ]
+    ]
 
-tokens-alone : (text : List ℕ) (G : Model) (ps : List Found) → All (InPlace text) ps → All (λ x. one_piece x.bytes ≡ true) ps
-    → All (OnePiece text) (tokens_of G ps)
+tokens-alone : (text : List ℕ) (G : Model) (ps : List Found) → AllByRecursion (InPlace text) ps
+    → AllByRecursion (λ x. one_piece x.bytes ≡ true) ps
+    → AllByRecursion (OnePiece text) (tokens_of G ps)
 tokens-alone text G [] at one = tt
 tokens-alone text G (x ∷ ps) at one =
     let o = terminal_of G x.bytes in
@@ -56,14 +59,14 @@ tokens-alone text G (x ∷ ps) at one =
     (tokens-alone text G ps at.1 one.1)
 
 cut-alone : (G : Model) (text : List ℕ) (ts : List Token) (k : Cutting) → Cut text k → accepted ts ≡ verdict_on G k
-    → All (OnePiece text) ts
+    → AllByRecursion (OnePiece text) ts
 cut-alone G text ts (Cutting.into ps) (q, r) e =
     let all = tokens-alone text G ps (in_place text r refl) (found-alone r) in
-    subst (λ (us : List Token). All (OnePiece text) us) (sym (accepted-tokens G ps ts e)) all
+    subst (λ (us : List Token). AllByRecursion (OnePiece text) us) (sym (accepted-tokens G ps ts e)) all
 cut-alone G text ts (Cutting.stuck p) cut e = let z : ◌≡◌ {A = ℕ} 0 1 = cc in absurd (omega arith)
 
 pub accepted-alone : (G : Model) (text : List ℕ) (ts : List Token) → Judged G text (accepted ts)
-    → All (λ t. one_piece (take t.length (drop t.start text)) ≡ true) ts
+    → AllByRecursion (λ t. one_piece (take t.length (drop t.start text)) ≡ true) ts
 accepted-alone G text ts j = elim (leb_tells (length text) 12288) [
   | inl p ↦ let k = j.cut p.1 in cut-alone G text ts k.0 k.1 k.2
   | inr p ↦

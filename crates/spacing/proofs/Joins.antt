@@ -1,6 +1,6 @@
 -- Pieces whose bytes are joined without gaps.
 use Rattle.std.proofs.Common.{◌≡◌, ℕ, true, List, [], ◌∷◌, ◌++◌, map, length, take, drop, refl, ap, ◌∙◌}
-use Rattle.std.specs.List.{flat_map, AllByRecursion as All}
+use Rattle.std.specs.List.{flat_map, AllByRecursion}
 use Rattle.std.proofs.lemmas.List.{take_at, drop_at}
 use Rattle.std.proofs.lemmas.Bool.{and_from}
 use Rattle.pieces.specs.Alone.{one_piece}
@@ -9,7 +9,7 @@ use Rattle.tree.specs.Pieces.{all_one_piece}
 
 -- each is one piece, and its record has its length
 pub joined_alone : {X : Type 0} (bytes : X → List ℕ) (record_of : X → PieceRecord) (xs : List X)
-    → All (λ x. length (bytes x) ≡ (record_of x).length) xs → All (λ x. one_piece (bytes x) ≡ true) xs
+    → AllByRecursion (λ x. length (bytes x) ≡ (record_of x).length) xs → AllByRecursion (λ x. one_piece (bytes x) ≡ true) xs
     → all_one_piece (flat_map bytes xs) (map record_of xs) ≡ true
 joined_alone bytes record_of [] long one = refl
 joined_alone bytes record_of (x ∷ xs) long one =

@@ -1,7 +1,7 @@
 -- The verdict on pieces that keep the limits and are found in their columns.
 use Rattle.std.proofs.Common.{◌≡◌, ℕ, suc, ◌+◌, ◌≤◌, Bool, false, cond, not, ◌||◌, eqb, ltb, List, [], ◌∷◌, ◌++◌, length, take, drop, is_some, Some, None, Option, sym, refl, ap, ◌∙◌, subst, arith}
 use Rattle.std.specs.Option.{option_to_list}
-use Rattle.std.specs.List.{AllByRecursion as All}
+use Rattle.std.specs.List.{AllByRecursion}
 use Rattle.std.proofs.lemmas.List.{length-drop, length-take-le}
 use Rattle.std.proofs.lemmas.Bool.{cond-false}
 use Rattle.std.proofs.lemmas.Bool.Decides.{nat_tests}
@@ -31,7 +31,8 @@ record Accepts (G : Model) (text bytes : List ℕ) (ps : List PieceRecord) (fs :
   tokens : Retold G text bytes ps (tokens_of G fs)
 
 accepts : (G : Model) (text : List ℕ) (cursor : ℕ) (ps : List PieceRecord) (fs : List Found) (bytes terminals : List ℕ) → Again bytes ps fs
-    → All (InPlace text) fs → Apart cursor ps → longest ps ≤ 32 → total ps ≤ length bytes → terminals_of G bytes ps ≡ Some terminals
+    → AllByRecursion (InPlace text) fs → Apart cursor ps → longest ps ≤ 32 → total ps ≤ length bytes → terminals_of G bytes ps ≡ Some
+    terminals
     → Accepts G text bytes ps fs
 accepts G text cursor [] [] bytes terminals again at apart short whole names =
     record { count = refl; inside = refl; known = refl; tokens = tt }
@@ -66,7 +67,7 @@ accepts G text cursor (p ∷ ps) (f ∷ fs) bytes terminals again at apart short
 
 -- such pieces, from 1 to 128, are accepted
 module _ (G : Model) (text : List ℕ) (ps : List PieceRecord) (fs : List Found) (bytes terminals : List ℕ) (again : Again bytes ps fs)
-    (at : All (InPlace text) fs) (apart : Apart 0 ps) (short : longest ps ≤ 32) (whole : total ps ≡ length bytes)
+    (at : AllByRecursion (InPlace text) fs) (apart : Apart 0 ps) (short : longest ps ≤ 32) (whole : total ps ≡ length bytes)
     (names : terminals_of G bytes ps ≡ Some terminals) where
   all : Accepts G text bytes ps fs
   all = accepts G text 0 ps fs bytes terminals again at apart short (omega arith) names

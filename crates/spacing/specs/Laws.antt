@@ -6,7 +6,7 @@
 --   AcceptedAlone   the tokens of an accepted text are each one piece by themselves
 --   Longest         no text of pieces that stand apart and keep the limits is longer, and one is as long
 use Rattle.std.specs.Prelude.{◌≡◌, ℕ, ◌≤◌, true, List, length, Some, Ok}
-use Rattle.std.specs.List.{AllByRecursion as All}
+use Rattle.std.specs.List.{AllByRecursion}
 use Rattle.pieces.specs.Alone.{one_piece}
 use Rattle.pieces.specs.Pieces.{Found, Cut, into}
 use Rattle.grammar.specs.Model.{Model}
@@ -43,7 +43,7 @@ LaidReads = (G : Model) (P : Question → Answer) (bytes : List ℕ) (ps : List 
 
 abbrev pub AcceptedAlone : Type 0
 AcceptedAlone = (G : Model) (text : List ℕ) (ts : List Token) → Judged G text (accepted ts)
-    → All (λ t. one_piece (bytes_at text t) ≡ true) ts
+    → AllByRecursion (λ t. one_piece (bytes_at text t) ≡ true) ts
 
 abbrev pub Longest : ℕ → Type 0
 Longest n =

@@ -1,7 +1,7 @@
 -- The tokens of an accepted text lie within it.
 use Rattle.std.proofs.Common.{◌≡◌, ℕ, ◌+◌, ◌<◌, ◌≤◌, Bool, true, false, cond, ◌||◌, eqb, ltb, List, [], ◌∷◌, length, Some, None, Option, sym, ap, ◌∙◌, subst, inl, inr, arith}
 use Rattle.std.specs.Option.{option_map, option_to_list}
-use Rattle.std.specs.List.{AllByRecursion as All}
+use Rattle.std.specs.List.{AllByRecursion}
 use Rattle.std.proofs.ByRecursion.{All-append}
 use Rattle.std.proofs.lemmas.List.{length-append}
 use Rattle.std.proofs.lemmas.Bool.Decides.{leb_tells, nat_tests}
@@ -20,7 +20,7 @@ Inside n t = (t.length ≤ 32) × (t.start + t.length ≤ n)
 
 -- every piece lies within its text
 pieces-inside : {p q : Place} {s t : List ℕ} {ps : List Found} (n : ℕ) → Reads p s ps q t → p.offset + length s ≡ n
-    → All (λ x. x.place.offset + length x.bytes ≤ n) ps
+    → AllByRecursion (λ x. x.place.offset + length x.bytes ≤ n) ps
 pieces-inside n Reads.here e = tt
 pieces-inside n (Reads.line is h) e = pieces-inside n h (omega (arith, ap (λ (xs : List ℕ). length xs) is))
 pieces-inside n (Reads.space is h) e = pieces-inside n h (omega (arith, ap (λ (xs : List ℕ). length xs) is))
@@ -29,13 +29,15 @@ pieces-inside n (Reads.piece {w = w} {s = s} is f h) e =
     (omega arith, pieces-inside n h (omega arith))
 
 -- and so does its token, if it has one
-token-inside : (n : ℕ) (x : Found) (o : Option ℕ) → x.place.offset + length x.bytes ≤ n → All (Inside n) (option_to_list (token_with x o))
+token-inside : (n : ℕ) (x : Found) (o : Option ℕ) → x.place.offset + length x.bytes ≤ n
+    → AllByRecursion (Inside n) (option_to_list (token_with x o))
 token-inside n x o h = elim (leb_tells (length x.bytes) 32) [
   | inl p ↦
       let few : length x.bytes ≤ 32 = p.1 in
-      elim (out_of_bounds x) as (λ b. All (Inside n) (option_to_list (cond b None (option_map (token x) o)))) [
+      elim (out_of_bounds x) as (λ b. AllByRecursion (Inside n) (option_to_list (cond b None (option_map (token x) o)))) [
         | true ↦ tt
-        | false ↦ elim o as (λ v. All (Inside n) (option_to_list (option_map (token x) v))) [ None ↦ tt | Some t ↦ ((few, h), tt) ]
+        | false ↦ elim o as (λ v. AllByRecursion (Inside n) (option_to_list (option_map (token x) v)))
+            [ None ↦ tt | Some t ↦ ((few, h), tt) ]
       ]
   | inr p ↦
       let long : 32 < length x.bytes = p.1 in
@@ -43,7 +45,8 @@ token-inside n x o h = elim (leb_tells (length x.bytes) 32) [
       rw out tt
 ]
 
-tokens-inside : (n : ℕ) (G : Model) (ps : List Found) → All (λ x. x.place.offset + length x.bytes ≤ n) ps → All (Inside n)
+tokens-inside : (n : ℕ) (G : Model) (ps : List Found) → AllByRecursion (λ x. x.place.offset + length x.bytes ≤ n) ps
+    → AllByRecursion (Inside n)
     (tokens_of G ps)
 tokens-inside n G [] all = tt
 tokens-inside n G (x ∷ ps) all =
@@ -69,13 +72,13 @@ accepted-tokens G ps ts e =
     cc
 
 cut_inside : (G : Model) (text : List ℕ) (ts : List Token) (k : Cutting) → Cut text k → accepted ts ≡ verdict_on G k
-    → All (Inside (length text)) ts
+    → AllByRecursion (Inside (length text)) ts
 cut_inside G text ts (Cutting.into ps) (q, r) e =
     let all = tokens-inside (length text) G ps (pieces-inside (length text) r (omega arith)) in
-    subst (λ (us : List Token). All (Inside (length text)) us) (sym (accepted-tokens G ps ts e)) all
+    subst (λ (us : List Token). AllByRecursion (Inside (length text)) us) (sym (accepted-tokens G ps ts e)) all
 cut_inside G text ts (Cutting.stuck p) cut e = let z : ◌≡◌ {A = ℕ} 0 1 = cc in absurd (omega arith)
 
-pub accepted-inside : (G : Model) (text : List ℕ) (ts : List Token) → Judged G text (accepted ts) → All (Inside (length text)) ts
+pub accepted-inside : (G : Model) (text : List ℕ) (ts : List Token) → Judged G text (accepted ts) → AllByRecursion (Inside (length text)) ts
 accepted-inside G text ts j = elim (leb_tells (length text) 12288) [
   | inl p ↦ let k = j.cut p.1 in cut_inside G text ts k.0 k.1 k.2
   | inr p ↦

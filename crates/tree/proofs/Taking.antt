@@ -38,11 +38,13 @@ next-none (x ∷ xs) (suc i) none = next-none xs i none
 pub not_past : {X : Type 0} (xs : List X) (i : ℕ) (x : X) → None ≡ slice_get xs i → (rest : List X) → drop i xs ≡ x ∷ rest → ⊥
 not_past xs i x none rest e = empty (sym (next-none xs i none) ∙ e)
 
-pub not_other : {X : Type 0} (xs : List X) (i : ℕ) (x y : X) → Some y ≡ slice_get xs i → (y ≡ x → ⊥) → (rest : List X) → drop i xs ≡ x ∷ rest → ⊥
+pub not_other : {X : Type 0} (xs : List X) (i : ℕ) (x y : X) → Some y ≡ slice_get xs i → (y ≡ x → ⊥) → (rest : List X)
+    → drop i xs ≡ x ∷ rest → ⊥
 not_other xs i x y here apart rest e = let f = next-is xs i y here in apart cc
 
 -- the rule of the node that comes next
-pub rule-next : (ns : List Node) (i : ℕ) (d : Node) → i < length ns → drop i (rules_of ns) ≡ (get_or ns i d).rule ∷ drop (i + 1) (rules_of ns)
+pub rule-next : (ns : List Node) (i : ℕ) (d : Node) → i < length ns
+    → drop i (rules_of ns) ≡ (get_or ns i d).rule ∷ drop (i + 1) (rules_of ns)
 rule-next ns i d here =
     let l : length (rules_of ns) ≡ length ns = length-map ns (λ (n : Node). n.rule) in
     let e = drop_more (rules_of ns) i 0 (omega arith) in

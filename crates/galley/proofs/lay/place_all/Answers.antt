@@ -17,7 +17,8 @@ loop-i-preserved c =
     let e : Placement = record { column = 0; opens_line = false } in
     let h : i < length ps = omega (arith, c.loop-i-test.true, c.min-i-end.ensures) in
     let k : i < length qs = omega (arith, c.loop-i-test.true, c.min-i-end.ensures) in
-    subst (λ (xs : List PieceRecord). set xs i (stand (get_or xs i d) (get_or qs i e)) ≡ standing ps (take (i + 1) qs)) (sym c.loop-i.invariant)
+    subst (λ (xs : List PieceRecord). set xs i (stand (get_or xs i d) (get_or qs i e)) ≡ standing ps (take (i + 1) qs))
+    (sym c.loop-i.invariant)
     (standing_more ps qs i d e h k)
 
 pub returns : goal.returns

@@ -1,5 +1,5 @@
 use Rattle.std.proofs.Common.{[], ◌∷◌, ◌++◌, sym, subst, arith}
-use Rattle.std.specs.List.{AllByRecursion as All}
+use Rattle.std.specs.List.{AllByRecursion}
 use Rattle.grammar.specs.declared.rule.Items.{Items}
 use Rattle.grammar.specs.Model.{listed}
 use Rattle.grammar.specs.Lawful.{Below}
@@ -14,8 +14,8 @@ pub wait-requires : goal.wait-requires
 wait-requires g c =
     let G = g.G.Grammar.model c.args.self.now.grammar.now in
     let ts = c.args.self.now.tokens.now in
-    let b : All (λ x. Below G x.symbol) (c.in-One.x ∷ []) =
-    subst (λ (xs : Items). All (λ x. Below G x.symbol) (listed xs)) c.in-One.is c.requires.below in
+    let b : AllByRecursion (λ x. Below G x.symbol) (c.in-One.x ∷ []) =
+    subst (λ (xs : Items). AllByRecursion (λ x. Below G x.symbol) (listed xs)) c.in-One.is c.requires.below in
     let r : Row G ts (c.in-One.x ∷ []) c.args.i c.args.j c.args.column =
     subst (λ (xs : Items). Row G ts (listed xs) c.args.i c.args.j c.args.column) c.in-One.is c.requires.some in
     record {
@@ -31,8 +31,8 @@ pub wait-requires-in-Two : goal.wait-requires-in-Two
 wait-requires-in-Two g c =
     let G = g.G.Grammar.model c.args.self.now.grammar.now in
     let ts = c.args.self.now.tokens.now in
-    let b : All (λ x. Below G x.symbol) (c.in-Two.x ∷ c.in-Two.y ∷ []) =
-    subst (λ (xs : Items). All (λ x. Below G x.symbol) (listed xs)) c.in-Two.is c.requires.below in
+    let b : AllByRecursion (λ x. Below G x.symbol) (c.in-Two.x ∷ c.in-Two.y ∷ []) =
+    subst (λ (xs : Items). AllByRecursion (λ x. Below G x.symbol) (listed xs)) c.in-Two.is c.requires.below in
     let k = c.cut_two-k.result in
     record {
       ready = c.requires.ready;
@@ -47,8 +47,8 @@ pub wait-requires-in-Three : goal.wait-requires-in-Three
 wait-requires-in-Three g c =
     let G = g.G.Grammar.model c.args.self.now.grammar.now in
     let ts = c.args.self.now.tokens.now in
-    let b : All (λ x. Below G x.symbol) (c.in-Three.x ∷ c.in-Three.y ∷ c.in-Three.z ∷ []) =
-    subst (λ (xs : Items). All (λ x. Below G x.symbol) (listed xs)) c.in-Three.is c.requires.below in
+    let b : AllByRecursion (λ x. Below G x.symbol) (c.in-Three.x ∷ c.in-Three.y ∷ c.in-Three.z ∷ []) =
+    subst (λ (xs : Items). AllByRecursion (λ x. Below G x.symbol) (listed xs)) c.in-Three.is c.requires.below in
     let m = c.cut_two-m.result in
     record {
       ready = c.requires.ready;

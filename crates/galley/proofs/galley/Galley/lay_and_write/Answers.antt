@@ -44,5 +44,7 @@ let_go-requires g c =
     let y = c.lay.new.self in
     let old = c.args.buffer.now in
     let x = c.args.self.now in
-    let_go_fine (write_fault s y (length old) c.args.start) (no_lay x) (g.G.Grammar.model c.args.g.now) (g.P.Policy.answers c.args.policy.now) s x y c.write.new.self c.in-Err.field-0 old c.write.new.buffer c.args.start c.in_ok-slip.ensures
+    let_go_fine (write_fault s y (length old) c.args.start) (no_lay x) (g.G.Grammar.model c.args.g.now)
+    (g.P.Policy.answers c.args.policy.now) s x y c.write.new.self c.in-Err.field-0 old c.write.new.buffer c.args.start
+    c.in_ok-slip.ensures
     c.in-Err.ensures

@@ -34,6 +34,7 @@ returns-in_err-hold_reading g c =
     let bytes : byte_count list ≤ room h.bytes = omega (arith, c.if-self-count_bytes.false) in
     let p = err_from_is_err_and c.from_residual.result c.from_residual.ensures.1 in
     let both =
-    not_taken (g.G.Grammar.model c.args.g.now) c.args.symbol (length c.args.cells.now) c.args.text.now (listed c.args.tokens.now) list h c.hold_reading.new.self c.in_err-hold_reading.field-0.0 c.as_slice-list.ensures c.requires.own c.requires.tree bytes
+    not_taken (g.G.Grammar.model c.args.g.now) c.args.symbol (length c.args.cells.now) c.args.text.now (listed c.args.tokens.now)
+    list h c.hold_reading.new.self c.in_err-hold_reading.field-0.0 c.as_slice-list.ensures c.requires.own c.requires.tree bytes
     c.if-self-list.false c.in_err-hold_reading.ensures in
     record { took = rw (p.1, p.2) both.0; sound = both.1; tree = both.2 }
