@@ -136,18 +136,19 @@ refused_by None G A text ts h t f (at, same) = (
 )
 
 pub not_taken : (G : Model) (symbol cells : ℕ) (text : List ℕ) (ts list : List Token) (h : Held) (t : Store Node) (f : Fault) → list ≡ ts
-    → Sound h → OneTree h → byte_count list ≤ room h.bytes → length list ≤ room h.pieces
+    → Sound h → byte_count list ≤ room h.bytes → length list ≤ room h.pieces
     → Read (unfit G symbol (length ts) (room h.nodes) cells) G symbol ts h.nodes (Err f) t
     → Took (short G symbol h ts cells) G symbol text ts h (Err f) (record { bytes = h.bytes; pieces = h.pieces; nodes = t })
-    × Sound (record { bytes = h.bytes; pieces = h.pieces; nodes = t }) × OneTree (record { bytes = h.bytes; pieces = h.pieces; nodes = t })
-not_taken G symbol cells text ts list h t f same own whole bytes pieces read =
+    × Sound (record { bytes = h.bytes; pieces = h.pieces; nodes = t })
+    × (OneTree h → OneTree (record { bytes = h.bytes; pieces = h.pieces; nodes = t }))
+not_taken G symbol cells text ts list h t f same own bytes pieces read =
     let b : byte_count ts ≤ room h.bytes = subst (λ (us : List Token). byte_count us ≤ room h.bytes) same bytes in
     let p : length ts ≤ room h.pieces = subst (λ (us : List Token). length us ≤ room h.pieces) same pieces in
     let a : ltb (room h.bytes) (byte_count ts) ≡ false = le-ltb (room h.bytes) (byte_count ts) b in
     let d : ltb (room h.pieces) (length ts) ≡ false = le-ltb (room h.pieces) (length ts) p in
     let r = refused_by (unfit G symbol (length ts) (room h.nodes) cells) G symbol text ts h t f read in
     let k = ap (λ (u : Store Node). record { bytes = h.bytes; pieces = h.pieces; nodes = u }) r.1 in
-    (rw (a, d) r.0, subst Sound (sym k) own, subst OneTree (sym k) whole)
+    (rw (a, d) r.0, subst Sound (sym k) own, subst OneTree (sym k))
 
 -- of the text that a galley took over
 settled_by : (o : Option Fault) (G : Model) (A : ℕ) (text : List ℕ) (ts : List Token) (x y : Galley) (r : Result Unit Fault)

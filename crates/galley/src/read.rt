@@ -24,7 +24,7 @@ impl Store<'_, Node> {
         tokens: &Tokens,
         cells: &mut [u64],
     ) -> Result<(), Fault>
-        ensures { Reads (G.model g.now) symbol (length cells.old) (listed tokens.now) self.entry.now result self.new }
+        ensures { Reads (G.model g.now) symbol (length cells.old) (listed tokens.now) self.old result self.new }
     {
         self.used = first_reading(g, symbol, tokens, cells, self.memory)?;
         Ok(())
@@ -42,11 +42,10 @@ impl Held<'_> {
         cells: &mut [u64],
     ) -> Result<(), Fault>
         requires own { Sound self.old }
-        requires tree { OneTree self.old }
         requires inside { Inside text.now (listed tokens.now) }
         ensures took { TakesOver (G.model g.now) symbol (length cells.old) text.now (listed tokens.now) self.old result self.new }
         ensures sound { Sound self.new }
-        ensures tree { OneTree self.new }
+        ensures tree { OneTree self.old → OneTree self.new }
     {
         let list = tokens.as_slice();
         if self.bytes.memory.len() < count_bytes(list) {
@@ -73,7 +72,7 @@ impl Galley<'_> {
         chart: &mut [u64],
     ) -> Result<(), Fault>
         ensures zero { chart.new ≡ replicate (length chart.old) 0 }
-        ensures answer { ReadsIn (G.model g.now) symbol text.now (length chart.old) self.entry.now result self.new }
+        ensures answer { ReadsIn (G.model g.now) symbol text.now (length chart.old) self.old result self.new }
     {
         let memory = ChartMemory { cells: chart };
         if self.laid.is_some() {

@@ -9,7 +9,6 @@ take_over-requires g c =
     let x = c.args.self.now in
     record {
       own = record { fit = x.fit; few = x.few; short = x.short; whole = x.whole };
-      tree = record { tree = x.tree; over = x.over };
       inside = accepted-inside (g.G.Grammar.model c.args.g.now) c.args.text.now (listed c.in_ok-tokens.tokens) c.in_ok-tokens.ensures.holds;
     }
 

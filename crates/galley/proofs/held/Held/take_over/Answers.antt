@@ -24,7 +24,7 @@ returns g c =
     c.as_slice-list.ensures c.requires.inside few bytes c.if-self-list.false read
     c.hold_bytes.ensures.used c.hold_bytes.ensures.room c.hold_bytes.ensures.front
     c.hold_pieces.ensures.used c.hold_pieces.ensures.room c.hold_pieces.ensures.front in
-    record { took = both.0; sound = both.1; tree = both.2 }
+    record { took = both.0; sound = both.1; tree = λ whole. both.2 }
 
 pub returns-in_err-hold_reading : goal.returns-in_err-hold_reading
 returns-in_err-hold_reading g c =
@@ -35,6 +35,6 @@ returns-in_err-hold_reading g c =
     let p = err_from_is_err_and c.from_residual.result c.from_residual.ensures.1 in
     let both =
     not_taken (g.G.Grammar.model c.args.g.now) c.args.symbol (length c.args.cells.now) c.args.text.now (listed c.args.tokens.now)
-    list h c.hold_reading.new.self c.in_err-hold_reading.field-0.0 c.as_slice-list.ensures c.requires.own c.requires.tree bytes
+    list h c.hold_reading.new.self c.in_err-hold_reading.field-0.0 c.as_slice-list.ensures c.requires.own bytes
     c.if-self-list.false c.in_err-hold_reading.ensures in
     record { took = rw (p.1, p.2) both.0; sound = both.1; tree = both.2 }
