@@ -4,10 +4,11 @@ use Rattle.std.specs.List.{slice_get, AllByRecursion}
 use Rattle.grammar.specs.declared.rule.Symbol.{Symbol}
 use Rattle.grammar.specs.declared.rule.Symbol.TheVariants.{Terminal, Nonterminal}
 use Rattle.grammar.specs.declared.rule.Item.{Item}
-use Rattle.grammar.specs.declared.rule.Items.{Items}
-use Rattle.grammar.specs.declared.rule.Items.TheVariants.{One, Two, Three}
+use Rattle.grammar.specs.Model.{Items}
+use Rattle.grammar.specs.declared.several.Several.TheVariants.{One, Two, Three}
 use Rattle.grammar.specs.declared.rule.Rule.{Rule}
-use Rattle.grammar.specs.Model.{Model, listed}
+use Rattle.grammar.specs.Model.{Model}
+use Rattle.grammar.specs.Several.{listed}
 use Rattle.grammar.specs.Lawful.{Below, Higher, Ordered, Lawful}
 use Rattle.text.specs.declared.token.Token.{Token}
 use Rattle.chart.specs.declared.waiting.Waiting.{Waiting}

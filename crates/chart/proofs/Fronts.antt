@@ -3,7 +3,8 @@ use Rattle.std.proofs.Common.{◌≡◌, ℕ, zero, suc, ◌+◌, ◌<◌, ◌�
 use Rattle.std.proofs.lemmas.List.{length-take-le}
 use Rattle.std.specs.List.{slice_get}
 use Rattle.grammar.specs.declared.rule.Item.{Item}
-use Rattle.grammar.specs.Model.{Model, listed}
+use Rattle.grammar.specs.Model.{Model}
+use Rattle.grammar.specs.Several.{listed}
 use Rattle.text.specs.declared.token.Token.{Token}
 use Rattle.chart.specs.Trees.{Tree, Children, width, widths, Covers, Divide}
 use Rattle.chart.specs.Fits.{Fits, Under}

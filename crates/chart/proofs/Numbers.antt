@@ -5,7 +5,8 @@ use Rattle.std.specs.List.{slice_get}
 use Rattle.grammar.specs.declared.rule.Symbol.TheVariants.{Nonterminal}
 use Rattle.grammar.specs.declared.rule.Item.{Item}
 use Rattle.grammar.specs.declared.rule.Rule.{Rule}
-use Rattle.grammar.specs.Model.{Model, listed}
+use Rattle.grammar.specs.Model.{Model}
+use Rattle.grammar.specs.Several.{listed}
 use Rattle.tree.specs.Forest.{Forest}
 use Rattle.chart.specs.Trees.{Tree, Children, width, widths, preorder, preorders, Covers, Divide}
 use Rattle.chart.specs.Numbers.{TreeNumbers, NumbersOne, NumbersTree}

@@ -4,8 +4,9 @@ use lib.Bits.{bit_and}
 use Rattle.columns.specs.Mask.{Bit, Means, Near}
 use Rattle.columns.proofs.Bits.{bit-and, and_bit}
 use Rattle.grammar.specs.declared.rule.Item.{Item}
-use Rattle.grammar.specs.declared.rule.Items.{Items}
-use Rattle.grammar.specs.Model.{Model, listed}
+use Rattle.grammar.specs.Model.{Items}
+use Rattle.grammar.specs.Model.{Model}
+use Rattle.grammar.specs.Several.{listed}
 use Rattle.text.specs.declared.token.Token.{Token}
 use Rattle.chart.specs.Cut.{first_begin, past_end}
 use Rattle.chart.specs.Readings.{Derives, Part, Row, ByRule, ItemsOf}

@@ -5,9 +5,10 @@ use Rattle.std.proofs.lemmas.Bool.{cases_lt}
 use Rattle.std.specs.List.{slice_get}
 use Rattle.columns.specs.Mask.{Means}
 use Rattle.columns.proofs.Sets.{means_as, means_none, means_or}
-use Rattle.grammar.specs.declared.rule.Items.{Items}
+use Rattle.grammar.specs.Model.{Items}
 use Rattle.grammar.specs.declared.rule.Rule.{Rule}
-use Rattle.grammar.specs.Model.{Model, listed}
+use Rattle.grammar.specs.Model.{Model}
+use Rattle.grammar.specs.Several.{listed}
 use Rattle.text.specs.declared.token.Token.{Token}
 use Rattle.chart.specs.Readings.{Derives, Row, ByRule, ItemsOf}
 use Rattle.chart.proofs.Rows.{same_some, nth-some, derives_rule, rule_derives}

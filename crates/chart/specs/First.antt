@@ -13,7 +13,8 @@ use Rattle.columns.specs.Mask.{Near}
 use Rattle.grammar.specs.declared.rule.Symbol.TheVariants.{Terminal, Nonterminal}
 use Rattle.grammar.specs.declared.rule.Item.{Item}
 use Rattle.grammar.specs.declared.rule.Rule.{Rule}
-use Rattle.grammar.specs.Model.{Model, listed}
+use Rattle.grammar.specs.Model.{Model}
+use Rattle.grammar.specs.Several.{listed}
 use Rattle.grammar.specs.Lawful.{Lawful}
 use Rattle.text.specs.declared.token.Token.{Token}
 use Rattle.chart.specs.Trees.{Tree, Children}

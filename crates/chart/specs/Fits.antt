@@ -6,7 +6,8 @@ use Rattle.std.specs.List.{slice_get}
 use Rattle.columns.specs.Relation.{Meets}
 use Rattle.grammar.specs.declared.rule.Item.{Item}
 use Rattle.grammar.specs.declared.rule.Rule.{Rule}
-use Rattle.grammar.specs.Model.{Model, listed}
+use Rattle.grammar.specs.Model.{Model}
+use Rattle.grammar.specs.Several.{listed}
 use Rattle.chart.specs.Trees.{Tree, Children, width}
 
 abbrev mutual

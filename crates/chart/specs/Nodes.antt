@@ -4,13 +4,13 @@
 --   Holds      node records are those of the tree, in preorder
 use Rattle.std.specs.Prelude.{◌≡◌, List, map, Some}
 use Rattle.std.specs.List.{slice_get, AllByRecursion}
-use Rattle.grammar.specs.declared.rule.Items.{Items}
-use Rattle.grammar.specs.declared.rule.Items.TheVariants as items
+use Rattle.grammar.specs.Model.{Items}
+use Rattle.grammar.specs.declared.several.Several.TheVariants as items
 use Rattle.grammar.specs.declared.rule.Rule.{Rule}
 use Rattle.grammar.specs.Model.{Model, child_of}
 use Rattle.tree.specs.declared.node.Node.{Node}
-use Rattle.tree.specs.declared.node.Shape.{Shape}
-use Rattle.tree.specs.declared.node.Shape.TheVariants.{One, Two, Three}
+use Rattle.grammar.specs.Model.{Shape}
+use Rattle.grammar.specs.declared.several.Several.TheVariants.{One, Two, Three}
 use Rattle.chart.specs.Trees.{Tree, preorder}
 
 abbrev pub shape_of : Items → Shape

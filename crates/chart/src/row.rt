@@ -1,7 +1,7 @@
 ghost use Rattle.std.specs.Prelude.{[], ◌∷◌};
 ghost use Rattle.std.specs.List.{AllByRecursion};
 ghost use Rattle.columns.specs.Mask.{Means};
-ghost use Rattle.grammar.specs.Model.{listed};
+ghost use Rattle.grammar.specs.Several.{listed};
 ghost use Rattle.grammar.specs.Lawful.{Below, Ordered};
 ghost use Rattle.chart.specs.Chart.{Ready, Within, Known, Inner, Upper, under, inside};
 ghost use Rattle.chart.specs.Readings.{Row, ItemsOf, Derives};

@@ -1,7 +1,7 @@
 ghost use Rattle.std.specs.Prelude.{◌≡◌, ◌+◌, ◌-◌, ◌<◌, ◌≤◌, length};
 ghost use Rattle.std.specs.List.{AllByRecursion};
 ghost use Rattle.columns.specs.Mask.{Near};
-ghost use Rattle.grammar.specs.Model.{listed};
+ghost use Rattle.grammar.specs.Several.{listed};
 ghost use Rattle.grammar.specs.Lawful.{Below};
 ghost use Rattle.tree.specs.Stack.{waiting};
 ghost use Rattle.chart.specs.Chart.{Ready, Within, Filled, under};

@@ -2,5 +2,6 @@
 
 #![tactic(auto)]
 
+mod display;
 pub mod fault;
 pub mod told;

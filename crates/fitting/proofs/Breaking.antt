@@ -5,7 +5,8 @@ use lib.Dec.{leb-suc-zero, leb-suc-suc, leb-zero}
 use Rattle.std.specs.List.{slice_get}
 use Rattle.faults.specs.declared.fault.Fault.{Fault}
 use Rattle.grammar.specs.declared.rule.Rule.{Rule}
-use Rattle.grammar.specs.Model.{Model, listed}
+use Rattle.grammar.specs.Model.{Model}
+use Rattle.grammar.specs.Several.{listed}
 use Rattle.policy.specs.declared.question.Question.{Question}
 use Rattle.policy.specs.declared.question.Answer.{Answer}
 use Rattle.tree.specs.Slots.{Slot, slots}

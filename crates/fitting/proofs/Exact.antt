@@ -6,7 +6,8 @@ use Rattle.faults.specs.declared.fault.Fault.{Fault}
 use Rattle.faults.specs.declared.fault.Fault.TheVariants.{TooDeep}
 use Rattle.grammar.specs.declared.rule.Item.{Item}
 use Rattle.grammar.specs.declared.rule.Rule.{Rule}
-use Rattle.grammar.specs.Model.{Model, child_of, listed}
+use Rattle.grammar.specs.Model.{Model, child_of}
+use Rattle.grammar.specs.Several.{listed}
 use Rattle.policy.specs.declared.question.Question.{Question}
 use Rattle.policy.specs.declared.question.Answer.{Answer}
 use Rattle.policy.specs.Policies.{minimal}

@@ -7,7 +7,8 @@ use Rattle.columns.specs.declared.relation.Relation.TheVariants.{Equal, Above, A
 use Rattle.columns.specs.Relation.{Meets}
 use Rattle.faults.specs.declared.fault.Fault.{Fault}
 use Rattle.grammar.specs.declared.rule.Item.{Item}
-use Rattle.grammar.specs.Model.{Model, listed}
+use Rattle.grammar.specs.Model.{Model}
+use Rattle.grammar.specs.Several.{listed}
 use Rattle.policy.specs.declared.question.Bound.TheVariants as bound
 use Rattle.policy.specs.declared.question.Question.{Question}
 use Rattle.policy.specs.declared.question.Answer.{Answer}

@@ -1,3 +1,2 @@
-pub mod Line
 pub mod Output
 pub mod Reindents

@@ -3,7 +3,7 @@
 use Rattle.std.specs.Prelude.{◌≡◌, ℕ, true, false, List, take, replicate, Ok, Err, vec_items}
 use Rattle.faults.specs.declared.fault.Fault.{Fault}
 use Rattle.formatter.specs.declared.output.Output.{Output}
-use Rattle.formatter.specs.Line.{fault_line}
+use Rattle.faults.specs.Line.{fault_line}
 use Rattle.formatter.specs.Reindents.{Reindents}
 
 -- the buffer that the text is written to

@@ -1,6 +1,6 @@
 ghost use Rattle.std.specs.Prelude.{◌≡◌, IfOk};
 ghost use Rattle.std.specs.String.{string_bytes};
-ghost use Rattle.formatter.specs.Line.{fault_line};
+ghost use Rattle.faults.specs.Line.{fault_line};
 ghost use Rattle.formatter.specs.Output.{Prints};
 
 use crate::reindent::reindent;
@@ -21,11 +21,7 @@ pub struct Output {
 pub fn fault_line(heap: Global, fault: &Fault) -> Result<String, AllocError>
     ensures { IfOk result (λ s. string_bytes s ≡ fault_line fault.now) }
 {
-    let number = fault.number();
-    let at = fault.place().position();
-    let line = at.line;
-    let column = at.column;
-    format!(in heap; "fault {number} line {line} column {column}\n")
+    format!(in heap; "{fault}\n")
 }
 
 // What the program prints for a text: the re-indented script, or the line of the fault.

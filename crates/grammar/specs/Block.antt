@@ -9,7 +9,7 @@ use Rattle.columns.specs.declared.relation.Relation.TheVariants.{Equal, Above, A
 use Rattle.pieces.specs.declared.piece.Class.TheVariants.{Name, Number, Quote}
 use Rattle.grammar.specs.declared.rule.Symbol.TheVariants as symbol
 use Rattle.grammar.specs.declared.rule.Item.{Item}
-use Rattle.grammar.specs.declared.rule.Items.TheVariants.{One, Two, Three}
+use Rattle.grammar.specs.declared.several.Several.TheVariants.{One, Two, Three}
 use Rattle.grammar.specs.declared.rule.Rule.{Rule}
 use Rattle.grammar.specs.Model.{Model, Terminal, class, word}
 

@@ -14,10 +14,10 @@ use Rattle.pieces.specs.declared.piece.Class.TheVariants.{Name, Number, Quote, S
 use Rattle.pieces.specs.Kinds.{letter, sign, goes_on}
 use Rattle.grammar.specs.declared.rule.Symbol.{Symbol}
 use Rattle.grammar.specs.declared.rule.Symbol.TheVariants as symbol
-use Rattle.grammar.specs.declared.rule.Items.{Items}
-use Rattle.grammar.specs.declared.rule.Items.TheVariants.{One, Two, Three}
+use Rattle.grammar.specs.declared.several.Several.TheVariants.{One, Two, Three}
 use Rattle.grammar.specs.declared.rule.Rule.{Rule}
-use Rattle.grammar.specs.Model.{Model, Terminal, class, word, listed}
+use Rattle.grammar.specs.Model.{Model, Items, Terminal, class, word}
+use Rattle.grammar.specs.Several.{listed}
 
 abbrev pub Below : Model → Symbol → Type 0
 Below G (symbol.Terminal t) = t < length G.terminals

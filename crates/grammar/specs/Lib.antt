@@ -1,3 +1,4 @@
+pub mod Several
 pub mod Model
 pub mod Lawful
 pub mod Block

@@ -1,7 +1,8 @@
 -- What a grammar means.
 --   Terminal      a class of pieces, or a word by its spelling
 --   Model         how many nonterminals there are, the terminals and the rules, each in the order of their numbers
---   listed        the items of a rule as a list
+--   Items         the items of a rule, one to three
+--   Shape         what the items of a node cover, in order
 --   child_of      what an item covers in a tree: a terminal one piece, a nonterminal a node
 --   first_with    the number of the first terminal that passes a test
 --   spelled       a test of a terminal: it is the word with these bytes
@@ -16,10 +17,9 @@ use Rattle.pieces.specs.Kinds.{class_of}
 use Rattle.grammar.specs.declared.rule.Symbol.{Symbol}
 use Rattle.grammar.specs.declared.rule.Symbol.TheVariants as symbol
 use Rattle.grammar.specs.declared.rule.Item.{Item}
-use Rattle.grammar.specs.declared.rule.Items.{Items}
-use Rattle.grammar.specs.declared.rule.Items.TheVariants.{One, Two, Three}
 use Rattle.grammar.specs.declared.rule.Rule.{Rule}
 use Rattle.grammar.specs.declared.rule.Child.{Child}
+use Rattle.grammar.specs.declared.several.Several.{Several}
 use Rattle.grammar.specs.declared.rule.Child.TheVariants.{Piece, Node}
 
 pub data Terminal : Type 0 where
@@ -31,10 +31,11 @@ pub record Model : Type 0 where
   pub terminals : List Terminal
   pub rules : List Rule
 
-abbrev pub listed : Items → List Item
-listed (One x) = x ∷ []
-listed (Two x y) = x ∷ y ∷ []
-listed (Three x y z) = x ∷ y ∷ z ∷ []
+abbrev pub Items : Type 0
+Items = Several Item
+
+abbrev pub Shape : Type 0
+Shape = Several Child
 
 abbrev pub child_of : Symbol → Child
 child_of (symbol.Terminal t) = Piece

@@ -7,6 +7,7 @@ ghost use Rattle.grammar.specs.Laws;
 use crate::block_rules;
 use crate::grammar::Grammar;
 use crate::rule::Rule;
+use pieces::piece::Class;
 
 // The built-in block language.
 #[derive(Clone, Copy)]
@@ -60,10 +61,10 @@ fn word_terminal(bytes: &[u8]) -> Option<u8>
 fn class_terminal(bytes: &[u8]) -> Option<u8>
     ensures { result ≡ first_with (classed (class_of bytes.now)) language.terminals }
 {
-    match bytes {
-        [b'A'..=b'Z' | b'a'..=b'z', ..] => Some(block_rules::NAME),
-        [b'0'..=b'9', ..] => Some(block_rules::NUMBER),
-        [b'"', ..] => Some(block_rules::QUOTE),
-        _ => None,
+    match Class::of(bytes)? {
+        Class::Name => Some(block_rules::NAME),
+        Class::Number => Some(block_rules::NUMBER),
+        Class::Quote => Some(block_rules::QUOTE),
+        Class::Sign => None,
     }
 }

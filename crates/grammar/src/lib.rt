@@ -6,3 +6,4 @@ pub mod block;
 mod block_rules;
 pub mod grammar;
 pub mod rule;
+pub mod several;

@@ -1,7 +1,7 @@
-ghost use Rattle.std.specs.Prelude.{◌≡◌, length};
-ghost use Rattle.std.specs.List.{slice_get};
-ghost use Rattle.grammar.specs.Model.{listed, child_of};
+ghost use Rattle.std.specs.Prelude.{◌≡◌};
+ghost use Rattle.grammar.specs.Model.{child_of};
 
+use crate::several::Several;
 use columns::relation::Relation;
 
 // What an item of a rule stands for, by its number.
@@ -20,13 +20,8 @@ pub struct Item {
     pub mark: bool,
 }
 
-// The items of a rule, one to three.
-#[derive(Clone, Copy)]
-pub enum Items {
-    One(Item),
-    Two(Item, Item),
-    Three(Item, Item, Item),
-}
+// The items of a rule.
+pub type Items = Several<Item>;
 
 // A rule: the nonterminal on its left, and its items.
 #[derive(Clone, Copy)]
@@ -50,33 +45,6 @@ impl Symbol {
         match self {
             Symbol::Terminal(_) => Child::Piece,
             Symbol::Nonterminal(_) => Child::Node,
-        }
-    }
-}
-
-impl Items {
-    // How many items there are.
-    pub fn count(&self) -> u8
-        ensures { result ≡ length (listed self.now) }
-    {
-        match self {
-            Items::One(_) => 1,
-            Items::Two(_, _) => 2,
-            Items::Three(_, _, _) => 3,
-        }
-    }
-
-    // The item at that place, counted from 0; none past the last.
-    pub fn get(&self, index: u8) -> Option<Item>
-        ensures { result ≡ slice_get (listed self.now) index }
-    {
-        match (self, index) {
-            (Items::One(first) | Items::Two(first, _) | Items::Three(first, _, _), 0) => Some(
-                *first,
-            ),
-            (Items::Two(_, second) | Items::Three(_, second, _), 1) => Some(*second),
-            (Items::Three(_, _, third), 2) => Some(*third),
-            _ => None,
         }
     }
 }

@@ -6,6 +6,7 @@ use Rattle.faults.specs.declared.fault.Fault.TheVariants.{TooDeep}
 use Rattle.grammar.specs.declared.rule.Symbol.{Symbol}
 use Rattle.grammar.specs.declared.rule.Symbol.TheVariants.{Terminal, Nonterminal}
 use Rattle.grammar.specs.Model as model
+use Rattle.grammar.specs.Several as several
 use Rattle.grammar.specs.Model.{Model}
 use Rattle.policy.specs.declared.question.Question.{Question}
 use Rattle.policy.specs.declared.question.Answer.{Answer}
@@ -68,9 +69,9 @@ module _ {X : Type 0} (G : Model) (P : Question → Answer) (rules ls : List ℕ
     by (Nonterminal n) symbol (e, entered, known, rules-on, terminals, number) here (line, list) so_far out lays =
         let b = subst (λ (o : Option Entered). Lays G P after.line (entered_slots o a.column ++ waiting_slots v) (rules_left v)
         (drop v.piece ls) out) entered lays in
-        let d = subst (λ (k : ℕ). Lays G P after.line (slots e.rule a.column 0 (model.listed e.items) ++ waiting_slots v)
+        let d = subst (λ (k : ℕ). Lays G P after.line (slots e.rule a.column 0 (several.listed e.items) ++ waiting_slots v)
         (rules_left v) (drop k ls) out) number b in
-        let f = subst (λ (l : Line). Lays G P l (slots e.rule a.column 0 (model.listed e.items) ++ waiting_slots v)
+        let f = subst (λ (l : Line). Lays G P l (slots e.rule a.column 0 (several.listed e.items) ++ waiting_slots v)
         (rules_left v) (drop w.piece ls) out) line d in
         let h : Lays G P before.line (slot_of s ∷ waiting_slots v) (e.rule ∷ rules_left v) (drop w.piece ls) out
         = node is shallow symbol known f in
@@ -115,13 +116,13 @@ module _ {X : Type 0} (G : Model) (P : Question → Answer) (rules ls : List ℕ
       let top = begun.top in
       let a = subst (λ (o : Option Entered). Lays G P p.line (entered_slots o 0 ++ waiting_slots w) (rules_left w)
       (drop w.piece ls) out) begun.entered lays in
-      let b = subst (λ (ss : List Slot). Lays G P p.line (slots top.rule 0 0 (model.listed top.items) ++ ss) (rules_left w)
+      let b = subst (λ (ss : List Slot). Lays G P p.line (slots top.rule 0 0 (several.listed top.items) ++ ss) (rules_left w)
       (drop w.piece ls) out) begun.slots a in
       let d = subst (λ (ss : List Slot). Lays G P p.line ss (rules_left w) (drop w.piece ls) out)
-      (append-nil (slots top.rule 0 0 (model.listed top.items))) b in
-      let e = subst (λ (k : ℕ). Lays G P p.line (slots top.rule 0 0 (model.listed top.items)) (rules_left w) (drop k ls) out)
+      (append-nil (slots top.rule 0 0 (several.listed top.items))) b in
+      let e = subst (λ (k : ℕ). Lays G P p.line (slots top.rule 0 0 (several.listed top.items)) (rules_left w) (drop k ls) out)
       begun.piece d in
-      let f = subst (λ (l : Line). Lays G P l (slots top.rule 0 0 (model.listed top.items)) (rules_left w) ls out) line e in
+      let f = subst (λ (l : Line). Lays G P l (slots top.rule 0 0 (several.listed top.items)) (rules_left w) ls out) line e in
       let h : LaysOut G P (top.rule ∷ rules_left w) ls out = (record { left = begun.left; items = top.items }, begun.known, f) in
       let k = subst (λ (rs : List ℕ). LaysOut G P rs ls out) (sym begun.rules_rest) h in
       let front : prefixed (take w.piece p.list) out ≡ out = ap (λ (n : ℕ). prefixed (take n p.list) out) begun.piece

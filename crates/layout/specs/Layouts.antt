@@ -15,6 +15,7 @@ use Rattle.faults.specs.declared.fault.Fault.TheVariants.{GrammarMismatch, TooDe
 use Rattle.grammar.specs.declared.rule.Symbol.TheVariants.{Terminal, Nonterminal}
 use Rattle.grammar.specs.declared.rule.Rule.{Rule}
 use Rattle.grammar.specs.Model as model
+use Rattle.grammar.specs.Several as several
 use Rattle.grammar.specs.Model.{Model}
 use Rattle.policy.specs.declared.question.Question.{Question}
 use Rattle.policy.specs.declared.question.Answer.{Answer}
@@ -54,13 +55,13 @@ pub data Lays (G : Model) (P : Question → Answer) : Line → List Slot → Lis
       → a.column ≤ 63
       → s.item.symbol ≡ Nonterminal rule.left
       → slice_get G.rules r ≡ Some rule
-      → Lays G P (asked line a.breaks) (slots r a.column 0 (model.listed rule.items) ++ ss) rs ls out
+      → Lays G P (asked line a.breaks) (slots r a.column 0 (several.listed rule.items) ++ ss) rs ls out
       → Lays G P line (s ∷ ss) (r ∷ rs) ls out
 
 abbrev pub LaysOut : Model → (Question → Answer) → List ℕ → List ℕ → Result (List Placement) Fault → Type 0
 LaysOut G P [] ls out = ⊥
 LaysOut G P (r ∷ rs) ls out =
-    (rule : Rule) × (slice_get G.rules r ≡ Some rule) × Lays G P start (slots r 0 0 (model.listed rule.items)) rs ls out
+    (rule : Rule) × (slice_get G.rules r ≡ Some rule) × Lays G P start (slots r 0 0 (several.listed rule.items)) rs ls out
 
 pub record ComesOut (G : Model) (P : Question → Answer) (rules ls : List ℕ) (out : Result (List Placement) Fault) : Type 0 where
   pub lays : LaysOut G P rules ls out

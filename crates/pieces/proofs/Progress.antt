@@ -1,6 +1,6 @@
 -- Reading on along a text.
-use Rattle.std.proofs.Common.{◌≡◌, ℕ, ◌+◌, ◌<◌, ◌≤◌, List, [], ◌∷◌, ◌++◌, length, get_or, drop, Some, None, refl, ap, ◌∙◌, arith}
-use Rattle.std.proofs.lemmas.List.{drop_more, drop_all}
+use Rattle.std.proofs.Common.{◌≡◌, ℕ, ◌+◌, ◌-◌, ◌<◌, ◌≤◌, List, [], ◌∷◌, ◌++◌, length, get_or, take, drop, Some, None, refl, ap, ◌∙◌, arith}
+use Rattle.std.proofs.lemmas.List.{drop_more, drop_all, take_rest, get_or-drop, length-drop}
 use Rattle.faults.specs.declared.fault.Position.{Position}
 use Rattle.pieces.specs.declared.kind.Kind.{Kind}
 use Rattle.pieces.specs.declared.kind.Kind.TheVariants.{LineEnd, Separator, Letter, Digit, Quote, Sign, Other}
@@ -56,3 +56,22 @@ module _ (text : List ℕ) (i : ℕ) (inside : i < length text) where
 
 pub ended : (text : List ℕ) (i : ℕ) → length text ≤ i → Pause (drop i text)
 ended text i h = rw (drop_all i text h) tt
+
+-- the bytes that are left of a text from o on
+abbrev pub left : List ℕ → ℕ → List ℕ
+left text o = take (length text - o) (drop o text)
+
+module _ (text : List ℕ) (o i j : ℕ) (at : j ≡ o + i) where
+  -- one of them is a byte of the text
+  pub left_at : get_or (left text o) i 0 ≡ get_or text j 0
+  left_at = rw (take_rest text o, at) (get_or-drop o text i 0)
+
+  pub left_inside : i < length (left text o) → j < length text
+  left_inside h =
+      let e : length (left text o) ≡ length (drop o text) = ap (λ (xs : List ℕ). length xs) (take_rest text o) in
+      omega (arith, h, e, length-drop o text)
+
+  pub left_past : o ≤ length text → length (left text o) ≤ i → length text ≤ j
+  left_past w h =
+      let e : length (left text o) ≡ length (drop o text) = ap (λ (xs : List ℕ). length xs) (take_rest text o) in
+      omega (arith, h, e, length-drop o text)

@@ -2,7 +2,6 @@
 --   letter, digit, sign   A to Z and a to z; 0 to 9; one of : ; = ( ) { } , + - * / < >
 --   goes_on               what a name runs on through: letters, digits and underscores
 --   quotable              what may stand inside a quote: bytes 32 to 126 but the quote byte 34
---   belongs_to            the bytes that run on inside a name, a number or a quote
 --   kind_of               what a byte begins
 --   class_of              the class of a piece with these bytes, by the first one
 use Rattle.std.specs.Prelude.{ℕ, Bool, cond, ◌&&◌, ◌||◌, List, [], ◌∷◌, Some, None, Option, ◌==◌, nat_le}
@@ -10,8 +9,6 @@ use Rattle.pieces.specs.declared.piece.Class.{Class}
 use Rattle.pieces.specs.declared.piece.Class.TheVariants as class
 use Rattle.pieces.specs.declared.kind.Kind.{Kind}
 use Rattle.pieces.specs.declared.kind.Kind.TheVariants.{LineEnd, Separator, Letter, Digit, Quote, Sign, Other}
-use Rattle.pieces.specs.declared.kind.Run.{Run}
-use Rattle.pieces.specs.declared.kind.Run.TheVariants as run
 
 -- from low to high
 abbrev pub within : ℕ → ℕ → ℕ → Bool
@@ -32,11 +29,6 @@ goes_on b = letter b || digit b || b == 95
 
 abbrev pub quotable : ℕ → Bool
 quotable b = within 32 33 b || within 35 126 b
-
-abbrev pub belongs_to : Run → ℕ → Bool
-belongs_to run.Name b = goes_on b
-belongs_to run.Number b = digit b
-belongs_to run.Quote b = quotable b
 
 abbrev pub kind_of : ℕ → Kind
 kind_of b =

@@ -1,5 +1,7 @@
 ghost use Rattle.std.specs.Prelude.{◌≡◌};
-ghost use Rattle.pieces.specs.Kinds.{letter, digit, sign, goes_on, quotable, kind_of, belongs_to};
+ghost use Rattle.pieces.specs.Kinds.{letter, digit, sign, goes_on, quotable, kind_of, class_for};
+
+use crate::piece::Class;
 
 // What a byte is where a piece may begin.
 #[derive(Clone, Copy)]
@@ -13,29 +15,43 @@ pub enum Kind {
     Other,
 }
 
-// Bytes that run on inside a piece.
-#[derive(Clone, Copy)]
-pub enum Run {
-    Name,
-    Number,
-    Quote,
+// Whether that byte is a letter.
+pub fn is_letter(byte: u8) -> bool
+    ensures { result ≡ letter byte }
+{
+    matches!(byte, b'A'..=b'Z' | b'a'..=b'z')
 }
 
-fn is_sign(byte: u8) -> bool
+// Whether that byte is a sign.
+pub fn is_sign(byte: u8) -> bool
     ensures { result ≡ sign byte }
 {
     matches!(byte, b'('..=b'-' | b'/' | b':'..=b'>' | b'{' | b'}')
 }
 
-impl Kind {
-    // What that byte begins.
-    pub fn of(byte: u8) -> Kind
-        ensures { result ≡ kind_of byte }
-    {
+// Whether a name runs on through that byte.
+pub fn goes_on(byte: u8) -> bool
+    ensures { result ≡ goes_on byte }
+{
+    matches!(byte, b'A'..=b'Z' | b'a'..=b'z' | b'0'..=b'9' | b'_')
+}
+
+// Whether that byte may stand inside a quote.
+pub(crate) fn is_quotable(byte: u8) -> bool
+    ensures { result ≡ quotable byte }
+{
+    matches!(byte, b' '..=b'~') && byte != b'"'
+}
+
+// What a byte begins.
+impl From<u8> for Kind {
+    ghost from_gives = { λ byte kind. kind ≡ kind_of byte };
+
+    fn from(byte: u8) -> Kind {
         match byte {
             b'\n' => Kind::LineEnd,
             b' ' => Kind::Separator,
-            b'A'..=b'Z' | b'a'..=b'z' => Kind::Letter,
+            b if is_letter(b) => Kind::Letter,
             b'0'..=b'9' => Kind::Digit,
             b'"' => Kind::Quote,
             b if is_sign(b) => Kind::Sign,
@@ -44,15 +60,17 @@ impl Kind {
     }
 }
 
-impl Run {
-    // Whether that byte runs on.
-    pub fn has(self, byte: u8) -> bool
-        ensures { result ≡ belongs_to self byte }
+impl Kind {
+    // The class of the piece that such a byte begins; none where it begins none.
+    pub fn class(self) -> Option<Class>
+        ensures { result ≡ class_for self }
     {
         match self {
-            Run::Name => matches!(byte, b'A'..=b'Z' | b'a'..=b'z' | b'0'..=b'9' | b'_'),
-            Run::Number => matches!(byte, b'0'..=b'9'),
-            Run::Quote => matches!(byte, b' '..=b'~') && byte != b'"',
+            Kind::Letter => Some(Class::Name),
+            Kind::Digit => Some(Class::Number),
+            Kind::Quote => Some(Class::Quote),
+            Kind::Sign => Some(Class::Sign),
+            Kind::LineEnd | Kind::Separator | Kind::Other => None,
         }
     }
 }

@@ -1,9 +1,9 @@
 ghost use Rattle.std.specs.Prelude.{◌≡◌, ◌∷◌};
 ghost use Rattle.std.specs.List.{prefix_len};
-ghost use Rattle.pieces.specs.Kinds.{belongs_to};
+ghost use Rattle.pieces.specs.Kinds.{digit, goes_on, quotable};
 ghost use Rattle.pieces.specs.Lexeme.{Front, Quoted};
 
-use crate::kind::{Kind, Run};
+use crate::kind::{Kind, goes_on, is_quotable};
 use crate::piece::Class;
 
 // A piece at the front of some bytes: its class, and how many bytes it has.
@@ -13,23 +13,35 @@ pub struct Lexeme {
     pub length: usize,
 }
 
-// How many bytes at the front run on.
-fn run_length(bytes: &[u8], run: Run) -> usize
-    ensures { result ≡ prefix_len (belongs_to run) bytes.now }
+// How many bytes at the front a name runs on through.
+fn name_length(bytes: &[u8]) -> usize
+    ensures { result ≡ prefix_len goes_on bytes.now }
 {
-    for (i, byte) in bytes.iter().enumerate() {
-        if !run.has(*byte) {
-            return i;
-        }
-    }
-    bytes.len()
+    bytes.iter().take_while(|byte| goes_on(**byte)).count()
+}
+
+// How many digits stand at the front.
+fn number_length(bytes: &[u8]) -> usize
+    ensures { result ≡ prefix_len digit bytes.now }
+{
+    bytes
+        .iter()
+        .take_while(|byte| matches!(**byte, b'0'..=b'9'))
+        .count()
+}
+
+// How many bytes at the front may stand inside a quote.
+fn quotable_length(bytes: &[u8]) -> usize
+    ensures { result ≡ prefix_len quotable bytes.now }
+{
+    bytes.iter().take_while(|byte| is_quotable(**byte)).count()
 }
 
 // The quote of which these bytes follow the opening one, if it is closed.
 fn quote(inside: &[u8]) -> Option<Lexeme>
     ensures { Quoted inside.now result }
 {
-    let end = run_length(inside, Run::Quote);
+    let end = quotable_length(inside);
     if end < inside.len() && inside[end] == b'"' {
         Some(Lexeme {
             class: Class::Quote,
@@ -48,14 +60,14 @@ impl Lexeme {
         let [first, rest @ ..] = bytes else {
             return None;
         };
-        match Kind::of(*first) {
+        match Kind::from(*first) {
             Kind::Letter => Some(Lexeme {
                 class: Class::Name,
-                length: run_length(bytes, Run::Name),
+                length: name_length(bytes),
             }),
             Kind::Digit => Some(Lexeme {
                 class: Class::Number,
-                length: run_length(bytes, Run::Number),
+                length: number_length(bytes),
             }),
             Kind::Quote => quote(rest),
             Kind::Sign => Some(Lexeme {

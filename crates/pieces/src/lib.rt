@@ -2,6 +2,7 @@
 
 #![tactic(auto)]
 
+mod classes;
 pub mod kind;
 pub mod lexeme;
 pub mod next;

@@ -18,7 +18,7 @@ fn behind(position: Position, byte: u8) -> Option<Position>
     ensures is { result ≡ position_behind (kind_of byte) position }
     ensures near { IfSome result (λ q. (q.line ≤ position.line + 1) × (q.column ≤ position.column + 1)) }
 {
-    match Kind::of(byte) {
+    match Kind::from(byte) {
         Kind::LineEnd => Some(Position {
             line: position.line + 1,
             column: 0,
@@ -50,8 +50,9 @@ impl<'a> PieceReader<'a> {
         ensures reads { Between self.old [] self.new }
         ensures stands { Pause (rest self.new) }
     {
-        while self.offset < self.text.len() {
-            let Some(position) = behind(self.position, self.text[self.offset]) else {
+        let text = self.text;
+        for byte in &text[self.offset..] {
+            let Some(position) = behind(self.position, *byte) else {
                 return;
             };
             self.position = position;

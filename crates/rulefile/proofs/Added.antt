@@ -1,7 +1,7 @@
 -- One line more in the tables.
 use Rattle.std.proofs.Common.{◌≡◌, ℕ, ◌+◌, ◌<◌, Bool, true, ◌||◌, ltb, List, [], ◌∷◌, ◌++◌, length, Some, None, Option, ap, ◌∙◌, arith}
 use Rattle.std.proofs.lemmas.Bool.{or_left, or_right, lt-ltb}
-use Rattle.grammar.specs.declared.rule.Items.{Items}
+use Rattle.grammar.specs.Model.{Items}
 use Rattle.grammar.specs.declared.rule.Rule.{Rule}
 use Rattle.grammar.specs.Model.{Terminal}
 use Rattle.rulefile.specs.declared.table.Rules.{Rules}

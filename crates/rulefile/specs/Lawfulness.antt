@@ -7,10 +7,11 @@ use Rattle.std.proofs.lemmas.List.{length-take, length-take-le}
 use Rattle.std.proofs.lemmas.Bool.{and_parts, ltb-true, not-true, both_ways}
 use Rattle.grammar.specs.declared.rule.Symbol.{Symbol}
 use Rattle.grammar.specs.declared.rule.Symbol.TheVariants as symbol
-use Rattle.grammar.specs.declared.rule.Items.{Items}
-use Rattle.grammar.specs.declared.rule.Items.TheVariants.{One, Two, Three}
+use Rattle.grammar.specs.Model.{Items}
+use Rattle.grammar.specs.declared.several.Several.TheVariants.{One, Two, Three}
 use Rattle.grammar.specs.declared.rule.Rule.{Rule}
 use Rattle.grammar.specs.Model as model
+use Rattle.grammar.specs.Several.{listed}
 use Rattle.grammar.specs.Lawful.{Lawful, Proper, WellFormed, Below, Higher, Ordered}
 use Rattle.rulefile.specs.declared.terminal.Terminal.{Terminal}
 use Rattle.rulefile.specs.declared.terminal.Terminal.TheVariants.{Name, Number, Quote, Word}
@@ -67,7 +68,7 @@ low G (symbol.Terminal k) h = ltb-true k (length G.terminals) h
 low G (symbol.Nonterminal a) h = ltb-true a G.nonterminals h
 
 all-low : (G : model.Model) (items : Items) → all_below G.nonterminals (length G.terminals) items ≡ true
-    → AllByRecursion (λ x. Below G x.symbol) (model.listed items)
+    → AllByRecursion (λ x. Below G x.symbol) (listed items)
 all-low G (One x) h = (low G x.symbol h, tt)
 all-low G (Two x y) h = let p = and_parts _ _ h in (low G x.symbol p.0, (low G y.symbol p.1, tt))
 all-low G (Three x y z) h =

@@ -10,8 +10,8 @@ use Rattle.columns.specs.declared.relation.Relation.{Relation}
 use Rattle.grammar.specs.declared.rule.Symbol.{Symbol}
 use Rattle.grammar.specs.declared.rule.Symbol.TheVariants as symbol
 use Rattle.grammar.specs.declared.rule.Item.{Item}
-use Rattle.grammar.specs.declared.rule.Items.{Items}
-use Rattle.grammar.specs.declared.rule.Items.TheVariants.{One, Two, Three}
+use Rattle.grammar.specs.Model.{Items}
+use Rattle.grammar.specs.declared.several.Several.TheVariants.{One, Two, Three}
 use Rattle.grammar.specs.declared.rule.Rule.{Rule}
 use Rattle.grammar.specs.Model.{Terminal}
 use Rattle.rulefile.specs.Denoted.{alike}

@@ -7,7 +7,7 @@
 use Rattle.std.specs.Prelude.{◌≡◌, ℕ, ◌+◌, true, ◌||◌, List, [], ◌∷◌, ◌++◌, length, Some, None, Option, nat_lt}
 use Rattle.grammar.specs.declared.rule.Symbol.{Symbol}
 use Rattle.grammar.specs.declared.rule.Item.{Item}
-use Rattle.grammar.specs.declared.rule.Items.{Items}
+use Rattle.grammar.specs.Model.{Items}
 use Rattle.grammar.specs.Model.{Terminal}
 use Rattle.rulefile.specs.declared.row.Mention.{Mention}
 use Rattle.rulefile.specs.declared.row.Mention.TheVariants as mention

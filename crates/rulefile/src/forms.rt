@@ -8,7 +8,7 @@ ghost use Rattle.rulefile.specs.FormViews.{symbol_view, relation_view, item_view
 use crate::form::{EntryForm, RelationForm, SymbolForm};
 use crate::row::Entry;
 use columns::relation::Relation;
-use pieces::kind::Run;
+use pieces::kind::{goes_on, is_letter, is_sign as is_one_sign};
 
 fn is_letter_or_digit(byte: u8) -> bool
     ensures { result ≡ letter_or_digit byte }
@@ -31,7 +31,7 @@ fn all_go_on(bytes: &[u8]) -> bool
     ensures { result ≡ every goes_on bytes.now }
 {
     for byte in bytes {
-        if !Run::Name.has(*byte) {
+        if !goes_on(*byte) {
             return false;
         }
     }
@@ -42,12 +42,6 @@ fn is_capital(byte: u8) -> bool
     ensures { result ≡ within 65 90 byte }
 {
     matches!(byte, b'A'..=b'Z')
-}
-
-fn is_letter(byte: u8) -> bool
-    ensures { result ≡ letter byte }
-{
-    matches!(byte, b'A'..=b'Z' | b'a'..=b'z')
 }
 
 // Whether some bytes are one name.
@@ -64,7 +58,7 @@ fn is_name(bytes: &[u8]) -> bool
 fn is_sign(bytes: &[u8]) -> bool
     ensures { result ≡ one_sign bytes.now }
 {
-    matches!(bytes, [b'('..=b'-' | b'/' | b':'..=b'>' | b'{' | b'}'])
+    matches!(bytes, [byte] if is_one_sign(*byte))
 }
 
 // Whether some bytes are one name or one sign.

@@ -1,7 +1,6 @@
 ghost use Rattle.std.specs.Prelude.{◌≡◌, Some, None};
 ghost use Rattle.std.specs.Option.{option_map};
 ghost use Rattle.std.specs.List.{slice_get};
-ghost use Rattle.pieces.specs.Kinds.{class_of};
 ghost use Rattle.rulefile.specs.Built.{model_of};
 ghost use Rattle.rulefile.specs.Denoted.{denoted};
 ghost use Rattle.rulefile.specs.Spelled.{spelled};
@@ -13,24 +12,7 @@ use crate::spelling::Spelling;
 use crate::terminal::Terminal;
 use grammar::grammar::Grammar;
 use grammar::rule::Rule;
-use pieces::kind::Kind;
 use pieces::piece::Class;
-
-// The class of a piece with these bytes, by the first one.
-fn class_of(bytes: &[u8]) -> Option<Class>
-    ensures { result ≡ class_of bytes.now }
-{
-    let [first, ..] = bytes else {
-        return None;
-    };
-    match Kind::of(*first) {
-        Kind::Letter => Some(Class::Name),
-        Kind::Digit => Some(Class::Number),
-        Kind::Quote => Some(Class::Quote),
-        Kind::Sign => Some(Class::Sign),
-        Kind::LineEnd | Kind::Separator | Kind::Other => None,
-    }
-}
 
 impl Grammar for LoadedGrammar {
     ghost model = { λ g. model_of g.table };
@@ -55,7 +37,7 @@ impl Grammar for LoadedGrammar {
 
     fn terminal(&self, bytes: &[u8]) -> Option<u8> {
         let word = self.table.terminals.of_word(bytes);
-        word.or(self.table.terminals.of_class(class_of(bytes)))
+        word.or(self.table.terminals.of_class(Class::of(bytes)))
     }
 }
 

@@ -9,9 +9,7 @@ use std::io;
 
 // A fault as one line.
 pub(crate) fn print_fault(rt: &HostRuntime, fault: Fault) -> io::Result<()> {
-    let number = fault.number();
-    let at = fault.place().position();
-    println!(rt; "fault {number} line {} column {}", at.line, at.column)
+    println!(rt; "{fault}")
 }
 
 // The counts, then a line for each terminal and each rule, by number.

@@ -4,7 +4,7 @@ use Rattle.std.proofs.lemmas.List.{at_drop_more}
 use Rattle.grammar.specs.declared.rule.Child.{Child}
 use Rattle.grammar.specs.declared.rule.Child.TheVariants.{Piece, Node}
 use Rattle.tree.specs.declared.node.Node.{Node as NodeRecord}
-use Rattle.tree.specs.declared.node.Shape.TheVariants.{One}
+use Rattle.grammar.specs.declared.several.Several.TheVariants.{One}
 use Rattle.shape.specs.declared.count.Path.{Path}
 use Rattle.shape.specs.Children.{under, kids, leaves, pieces_in, closes}
 use Rattle.shape.specs.Counted.{pieces_before, widened, path, span}

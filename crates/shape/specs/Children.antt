@@ -7,14 +7,12 @@
 use Rattle.std.specs.Prelude.{ℕ, zero, suc, ◌+◌, Bool, true, false, List, [], ◌∷◌}
 use Rattle.grammar.specs.declared.rule.Child.{Child}
 use Rattle.grammar.specs.declared.rule.Child.TheVariants.{Piece, Node}
-use Rattle.tree.specs.declared.node.Shape.{Shape}
-use Rattle.tree.specs.declared.node.Shape.TheVariants.{One, Two, Three}
+use Rattle.grammar.specs.Model.{Shape}
+use Rattle.grammar.specs.Several.{listed}
 use Rattle.tree.specs.declared.node.Node.{Node as NodeRecord}
 
 abbrev pub children : Shape → List Child
-children (One x) = x ∷ []
-children (Two x y) = x ∷ y ∷ []
-children (Three x y z) = x ∷ y ∷ z ∷ []
+children = listed
 
 abbrev pub kids : List Child → ℕ
 kids [] = 0

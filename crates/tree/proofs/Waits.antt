@@ -3,9 +3,9 @@ use Rattle.std.proofs.Common.{◌≡◌, ℕ, ◌<◌, ◌≤◌, false, ltb, Li
 use borrow.Author.Tests.{false-ltb}
 use Rattle.std.specs.List.{flat_map}
 use Rattle.std.proofs.lemmas.List.{length-append}
-use Rattle.grammar.specs.declared.rule.Items.{Items}
-use Rattle.grammar.specs.declared.rule.Items.TheVariants.{One, Two, Three}
-use Rattle.grammar.specs.Model.{listed}
+use Rattle.grammar.specs.Model.{Items}
+use Rattle.grammar.specs.declared.several.Several.TheVariants.{One, Two, Three}
+use Rattle.grammar.specs.Several.{listed}
 use Rattle.tree.specs.declared.frame.Frame.{Frame}
 use Rattle.tree.specs.Slots.{slots, frame_slots}
 

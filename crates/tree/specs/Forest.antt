@@ -9,7 +9,8 @@ use Rattle.faults.specs.declared.fault.Fault.TheVariants.{GrammarMismatch}
 use Rattle.grammar.specs.declared.rule.Symbol.TheVariants.{Terminal, Nonterminal}
 use Rattle.grammar.specs.declared.rule.Item.{Item}
 use Rattle.grammar.specs.declared.rule.Rule.{Rule}
-use Rattle.grammar.specs.Model.{Model, listed}
+use Rattle.grammar.specs.Model.{Model}
+use Rattle.grammar.specs.Several.{listed}
 
 pub data Forest (G : Model) : List Item → List ℕ → List ℕ → Type 0 where
   none : Forest G [] [] []

@@ -8,8 +8,8 @@
 --   rest_slots      those of a node if there is one
 use Rattle.std.specs.Prelude.{ℕ, ◌+◌, List, [], ◌∷◌, Some, None, Option}
 use Rattle.grammar.specs.declared.rule.Item.{Item}
-use Rattle.grammar.specs.declared.rule.Items.{Items}
-use Rattle.grammar.specs.Model.{listed}
+use Rattle.grammar.specs.Model.{Items}
+use Rattle.grammar.specs.Several.{listed}
 use Rattle.tree.specs.declared.frame.Frame.{Frame}
 use Rattle.tree.specs.declared.frame.Entered.{Entered}
 

@@ -1,5 +1,5 @@
 ghost use Rattle.std.specs.Prelude.{◌+◌, ◌≤◌, length};
-ghost use Rattle.grammar.specs.Model.{listed};
+ghost use Rattle.grammar.specs.Several.{listed};
 
 use grammar::rule::Items;
 

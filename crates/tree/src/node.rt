@@ -1,12 +1,8 @@
 use grammar::rule::Child;
+use grammar::several::Several;
 
 // What the items of a node cover, in order.
-#[derive(Clone, Copy)]
-pub enum Shape {
-    One(Child),
-    Two(Child, Child),
-    Three(Child, Child, Child),
-}
+pub type Shape = Several<Child>;
 
 // A node of a tree: its rule, the nonterminal on that rule's left, and what its items cover.
 // Nodes stand in preorder, so that the list of rule numbers gives the tree.

@@ -1,5 +1,5 @@
 ghost use Rattle.std.specs.Prelude.{◌≡◌, ◌+◌, ◌≤◌, ◌∷◌, length};
-ghost use Rattle.grammar.specs.Model.{listed};
+ghost use Rattle.grammar.specs.Several.{listed};
 ghost use Rattle.tree.specs.Slots.{frame_slots, rest_slots, slot_at, slots_behind};
 
 use crate::frame::Frame;

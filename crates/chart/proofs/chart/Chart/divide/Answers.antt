@@ -1,7 +1,7 @@
 use Rattle.std.proofs.Common.{[], ◌∷◌, ◌++◌, sym, subst, arith}
 use Rattle.std.specs.List.{AllByRecursion}
-use Rattle.grammar.specs.declared.rule.Items.{Items}
-use Rattle.grammar.specs.Model.{listed}
+use Rattle.grammar.specs.Model.{Items}
+use Rattle.grammar.specs.Several.{listed}
 use Rattle.grammar.specs.Lawful.{Below}
 use Rattle.tree.specs.Stack.{waiting}
 use Rattle.chart.specs.Readings.{Row}

@@ -1,5 +1,5 @@
 use Rattle.std.proofs.Common.{sym, subst}
-use Rattle.tree.specs.declared.node.Shape.{Shape}
+use Rattle.grammar.specs.Model.{Shape}
 use Rattle.grammar.specs.declared.rule.Rule.{Rule}
 use Rattle.chart.specs.Waits.{Entered}
 use Rattle.chart.proofs.Rules.{rule_hit}

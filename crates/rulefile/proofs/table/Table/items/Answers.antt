@@ -1,7 +1,7 @@
 use Rattle.std.proofs.Common.{ℕ, List, [], ◌∷◌, Some, Option, sym, ap, subst}
 use Rattle.grammar.specs.declared.rule.Item.{Item}
-use Rattle.grammar.specs.declared.rule.Items.{Items}
-use Rattle.grammar.specs.declared.rule.Items.TheVariants.{Two, Three}
+use Rattle.grammar.specs.Model.{Items}
+use Rattle.grammar.specs.declared.several.Several.TheVariants.{Two, Three}
 use Rattle.grammar.specs.Model.{Terminal}
 use Rattle.rulefile.specs.declared.row.Entry.{Entry}
 use Rattle.rulefile.specs.declared.row.Entries.{Entries}
