@@ -10,7 +10,7 @@ use Rattle.grammar.specs.declared.rule.Symbol.TheVariants.{Terminal, Nonterminal
 use Rattle.grammar.specs.declared.rule.Item.{Item}
 use Rattle.grammar.specs.Model.{Model}
 use Rattle.text.specs.declared.token.Token.{Token}
-use Rattle.chart.specs.Cut.{first_begin, past_end}
+use Rattle.chart.specs.Cut.{first_begin, row_begin, past_end}
 use Rattle.chart.specs.Readings.{Part, Row}
 use Rattle.chart.proofs.Rows.{row_cons, cons_row, row_one, one_row, near_grows, row_grows}
 
@@ -38,9 +38,13 @@ module _ (G : Model) (ts : List Token) where
   unfolding Near
   cut-end x y xs i k j c n r = part_end x.symbol i k j n.1.0 n.1.1 (omega (arith, row_grows G ts (y ∷ xs) k j c r))
 
-  pub cut_begin : (y : Item) (i k j c : ℕ) → i < k → Row G ts (y ∷ []) k j c → first_begin y.symbol i j ≤ k
+  cut_begin : (y : Item) (i k j c : ℕ) → i < k → Row G ts (y ∷ []) k j c → first_begin y.symbol i j ≤ k
   unfolding Near
   cut_begin y i k j c l r = let n = row_one G ts y k j c r in part_begin y.symbol i k j n.1.0 n.1.1 l
+
+  pub begins : (y : Item) (xs : List Item) (i k j c : ℕ) → i < k → Row G ts (y ∷ xs) k j c → row_begin (y ∷ xs) i j ≤ k
+  begins y [] i k j c h r = cut_begin y i k j c h r
+  begins y (z ∷ xs) i k j c h r = omega arith
 
   -- ---- cut by cut
 

@@ -1,5 +1,5 @@
 -- What waits for a row of items, put together from the last item on.
-use Rattle.std.proofs.Common.{◌≡◌, ℕ, List, [], ◌∷◌, ◌++◌, sym, refl, ap, ◌∙◌, append_assoc, arith}
+use Rattle.std.proofs.Common.{◌≡◌, ℕ, List, [], ◌∷◌, ◌++◌, sym, refl, ap, ◌∙◌, subst, append_assoc, arith}
 use Rattle.std.proofs.lemmas.List.{append-nil}
 use Rattle.grammar.specs.declared.rule.Item.{Item}
 use Rattle.grammar.specs.Model.{Model}
@@ -30,3 +30,10 @@ module _ (G : Model) (ts : List Token) where
   pub divided_more : (x : Item) (xs : List Item) (c i k j : ℕ) (us vs : List Waiting) → Shortest G ts x xs i j c k
       → Awaits G ts x x.symbol c i k us → Divided G ts xs c k j vs → Divided G ts (x ∷ xs) c i j (us ++ vs)
   divided_more x xs c i k j us vs s h d = (k, us, vs, refl, s, h, d)
+
+  -- what waits for a lone item
+  pub divided_lone : (x : Item) (c i k : ℕ) (ws : List Waiting) → Divided G ts (x ∷ []) c i k ws → Awaits G ts x x.symbol c i k ws
+  divided_lone x c i k ws (m, us, vs, e, s, h, d) =
+      let q : ws ≡ us = e ∙ ap (λ (y : List Waiting). us ++ y) d.1 ∙ append-nil us in
+      subst (λ (y : List Waiting). Awaits G ts x x.symbol c i k y) (sym q)
+      (subst (λ (n : ℕ). Awaits G ts x x.symbol c i n us) d.0 h)

@@ -15,7 +15,7 @@ use Rattle.chart.specs.declared.waiting.Waiting.{Waiting}
 use Rattle.chart.specs.Place.{nodes_of}
 use Rattle.chart.specs.Trees.{Tree}
 use Rattle.chart.specs.First.{LowestRule}
-use Rattle.chart.specs.Nodes.{shape_of}
+use Rattle.grammar.specs.Model.{shape_of}
 use Rattle.chart.specs.Waits.{Due, rooms, Awaits, Divided, Entered}
 use Rattle.chart.proofs.Rows.{same_some}
 use Rattle.chart.proofs.Rooms.{nodes-some}
@@ -28,8 +28,10 @@ module _ (G : Model) (ts : List Token) where
       → rooms G.nonterminals ws < nodes_of G.nonterminals (k - i) - a
   lone_room x (Terminal t) a c i k ws l h b o w =
       omega (arith, ap (rooms G.nonterminals) w, nodes-some G.nonterminals (k - i) (omega arith))
-  lone_room x (Nonterminal e) a c i k ws l h b o w =
-      omega (arith, ap (rooms G.nonterminals) w.1, nodes-some G.nonterminals (k - i) (omega arith))
+  lone_room x (Nonterminal e) a c i k ws l h b o (w, q, s, f, t, m) =
+      let n = G.nonterminals in
+      let p : nodes_of n (w.stretch.to - w.stretch.from) ≡ nodes_of n (k - i) = rw (f, t) refl in
+      omega (arith, ap (rooms n) q, nodes-some n (k - i) (omega arith))
 
   items-room : (items : Items) (a c i j : ℕ) (ws : List Waiting) → i < j → a < G.nonterminals
       → AllByRecursion (λ x. Below G x.symbol) (listed items)
@@ -44,8 +46,8 @@ module _ (G : Model) (ts : List Token) where
       omega (arith, divided_fewer G ts G.nonterminals x y (z ∷ []) c i j ws d)
 
   pub entered : Lawful G → (w : Waiting) (r : ℕ) (rule : Rule) (ws : List Waiting) → Due G ts w
-      → LowestRule G ts w.symbol w.from w.to w.column r → slice_get G.rules r ≡ Some rule
-      → Divided G ts (listed rule.items) w.column w.from w.to ws
+      → LowestRule G ts w.symbol w.stretch.from w.stretch.to w.column r → slice_get G.rules r ≡ Some rule
+      → Divided G ts (listed rule.items) w.column w.stretch.from w.stretch.to ws
       → Entered G ts w record { rule = r; left = rule.left; shape = shape_of rule.items } ws
   entered law w r rule ws due l e d =
       let p = law.proper r rule e in
@@ -53,15 +55,15 @@ module _ (G : Model) (ts : List Token) where
       ap (λ (x : Rule). x.left) (same_some (slice_get G.rules r) rule l.fits.0 e l.fits.1) ∙ l.fits.2 in
       let o : Ordered w.symbol rule.items = subst (λ (a : ℕ). Ordered a rule.items) left p.ordered in
       record {
-        due = divided_due G ts (listed rule.items) w.column w.from w.to ws p.below due.within.1 d;
-        short = divided_covered G ts (listed rule.items) w.column w.from w.to ws d;
+        due = divided_due G ts (listed rule.items) w.column w.stretch.from w.stretch.to ws p.below due.within d;
+        short = divided_covered G ts (listed rule.items) w.column w.stretch.from w.stretch.to ws d;
         room = omega (
           arith,
-          items-room rule.items w.symbol w.column w.from w.to ws due.within.0 due.low
+          items-room rule.items w.symbol w.column w.stretch.from w.stretch.to ws w.stretch.some due.low
               p.below o d,
         );
         writes = λ ns h.
-            let u = divided_written G ts (listed rule.items) w.column w.from w.to ws ns d h in (
+            let u = divided_written G ts (listed rule.items) w.column w.stretch.from w.stretch.to ws ns d h in (
               Tree.node r u.0,
               (l, (rule, e, u.1)),
               record {

@@ -1,7 +1,9 @@
 -- Under a lawful grammar there is a first reading wherever there is a reading.
-use Rattle.std.proofs.Common.{◌≡◌, ℕ, zero, suc, ◌+◌, ◌-◌, ◌<◌, ◌≤◌, List, [], ◌∷◌, length, Some, None, Option, refl, ap, ◌∙◌, subst, inl, inr, ⊎_elim, arith}
+use Rattle.std.proofs.Common.{◌≡◌, ℕ, zero, suc, ◌+◌, ◌-◌, ◌<◌, ◌≤◌, List, [], ◌∷◌, length, Some, None, Option, refl, ap, ◌∙◌, subst, inl}
+use Rattle.std.proofs.Common.{inr, ⊎_elim, arith}
 use Rattle.std.specs.List.{slice_get, AllByRecursion}
 use Rattle.std.proofs.lemmas.Bool.{cases_eq}
+use Rattle.std.proofs.lemmas.Option.{slice_get_within}
 use Rattle.grammar.specs.declared.rule.Symbol.TheVariants.{Nonterminal}
 use Rattle.grammar.specs.declared.rule.Item.{Item}
 use Rattle.grammar.specs.Model.{Items}
@@ -15,7 +17,7 @@ use Rattle.chart.specs.Place.{nodes_of}
 use Rattle.chart.specs.Trees.{Tree, Children, Covers}
 use Rattle.chart.specs.Readings.{terminals, Derives, Part, Row, ByRule, Reading}
 use Rattle.chart.specs.First.{First, Firsts, FirstReading, FirstExists}
-use Rattle.chart.proofs.Rows.{same_some, not_both, nth-some, derives_rule, rule_derives, part-grows}
+use Rattle.chart.proofs.Rows.{same_some, not_both, derives_rule, rule_derives, part-grows}
 use Rattle.chart.proofs.Rooms.{nodes-some, nodes_less, nodes_mono}
 use Rattle.chart.proofs.Fronts.{reading_derives}
 use Rattle.chart.proofs.Trying.{Decided, try_below, lowest_of, decided_as}
@@ -108,14 +110,14 @@ module _ (G : Model) (ts : List Token) (law : Lawful G) where
         ⊎_elim (λ h. inl (rule_derives G ts A i j c h.0 h.2.0))
         (λ g. inr (λ d.
         let q = derives_rule G ts A i j c d in
-        g q.0 (nth-some G.rules q.0 q.1.0 q.1.1) q.1))
+        g q.0 (slice_get_within G.rules q.0 q.1.0 q.1.1) q.1))
         (try_below (λ r. ByRule G ts r A i j c) (length G.rules) (λ r l. decided_rule r c (slice_get G.rules r) refl))
 
     pub found-tree : (c : ℕ) → Derives G ts A i j c → (t : Tree) × First G ts t A i j c
     found-tree c d =
         let q = derives_rule G ts A i j c d in
         let o = lowest_of (λ r. ByRule G ts r A i j c) (length G.rules) (λ r l. decided_rule r c (slice_get G.rules r) refl) q.0
-        (nth-some G.rules q.0 q.1.0 q.1.1) q.1 in
+        (slice_get_within G.rules q.0 q.1.0 q.1.1) q.1 in
         let r = o.0 in
         let h = o.2.0 in
         let rule = h.0 in
@@ -124,7 +126,7 @@ module _ (G : Model) (ts : List Token) (law : Lawful G) where
         (Tree.node r u.0, (record { fits = h; least = o.2.1 }, (rule, h.1, u.1)))
 
   mutual
-    decided_derives : (f A i j c : ℕ) → A < G.nonterminals → i < j → nodes_of G.nonterminals (j - i) - A ≤ f → Decided (Derives G ts
+    pub decided_derives : (f A i j c : ℕ) → A < G.nonterminals → i < j → nodes_of G.nonterminals (j - i) - A ≤ f → Decided (Derives G ts
         A i j c)
     decided_derives zero A i j c l s r = absurd (omega (arith, nodes-some G.nonterminals (j - i) (omega arith)))
     decided_derives (suc f) A i j c l s r = decided_tree f (decided_derives f) (found_first f) A i j l s r c

@@ -6,9 +6,8 @@ use Rattle.grammar.specs.Model.{Model}
 use Rattle.text.specs.declared.token.Token.{Token}
 use Rattle.chart.specs.Place.{cell_place}
 use Rattle.chart.specs.Readings.{Derives}
-use Rattle.chart.specs.Chart.{Board, Within, Exact, Done}
+use Rattle.chart.specs.Chart.{Exact, Done}
 use Rattle.chart.proofs.Places.{place_apart}
-use Rattle.chart.proofs.Boards.{in_chart}
 
 -- exact are the numbers for i up to j of the nonterminals from a on, and all that came before
 pub record Stretch (G : Model) (ts : List Token) (cs : List ℕ) (a i j : ℕ) : Type 0 where
@@ -25,15 +24,16 @@ module _ (G : Model) (ts : List Token) where
   unfolding Exact
   exact_same cs v a i j l e = rw get_or-set_same e
 
-  pub stretch_more : (cs : List ℕ) (v a i j : ℕ) → Board G ts cs → a < G.nonterminals → Within ts i j → Stretch G ts cs (a + 1) i j
+  pub stretch_more : (cs : List ℕ) (v a i j : ℕ) → cell_place G.nonterminals a i j < length cs → a < G.nonterminals → i < j
+      → Stretch G ts cs (a + 1) i j
       → Means v (Derives G ts a i j) → Stretch G ts (set cs (cell_place G.nonterminals a i j) v) a i j
-  stretch_more cs v a i j o h w s e = record {
+  stretch_more cs v a i j o h l s e = record {
     before = λ B k m x y z u. exact_other cs _ v B k m
-        (λ q. let t = place_apart G.nonterminals B k m a i j x h y w.0 q in omega (arith, t.1, t.2)) (s.before B k m x y z u);
+        (λ q. let t = place_apart G.nonterminals B k m a i j x h y l q in omega (arith, t.1, t.2)) (s.before B k m x y z u);
     here = λ b x y. ⊎_elim
         (λ q. subst (λ (n : ℕ). Exact G ts (set cs (cell_place G.nonterminals a i j) v) n i j) q
-        (exact_same cs v a i j (in_chart G ts cs a i j o h w) e))
-        (λ q. exact_other cs _ v b i j (λ r. q (sym (place_apart G.nonterminals b i j a i j y h w.0 w.0 r).0))
+        (exact_same cs v a i j o e))
+        (λ q. exact_other cs _ v b i j (λ r. q (sym (place_apart G.nonterminals b i j a i j y h l l r).0))
         (s.here b (omega arith) y))
         (cases_eq a b);
   }

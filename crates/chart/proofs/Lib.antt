@@ -20,3 +20,6 @@ pub mod Decides
 pub mod Finds
 pub mod Exists
 pub mod Numbers
+pub mod Opens
+pub mod Stacks
+pub mod Lasts

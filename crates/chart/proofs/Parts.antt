@@ -1,6 +1,8 @@
 -- The columns at which a terminal can cover tokens.
-use Rattle.std.proofs.Common.{◌≡◌, ℕ, zero, suc, ◌+◌, ◌<◌, List, [], ◌∷◌, map, Some, sym, ap, ◌∙◌, arith}
+use Rattle.std.proofs.Common.{◌≡◌, ℕ, ◌+◌, ◌<◌, List, map, Some, sym, ap, ◌∙◌, arith}
 use Rattle.std.specs.List.{slice_get}
+use Rattle.std.specs.Option.{option_map}
+use Rattle.std.proofs.lemmas.Option.{slice_get-map}
 use Rattle.columns.specs.Mask.{Means}
 use Rattle.columns.proofs.Sets.{means_as, means_none}
 use Rattle.grammar.specs.declared.rule.Symbol.TheVariants.{Terminal}
@@ -9,10 +11,8 @@ use Rattle.text.specs.declared.token.Token.{Token}
 use Rattle.chart.specs.Readings.{terminals, columns, Part}
 use Rattle.chart.proofs.Rows.{same_some}
 
-pub nth-map : {X Y : Type 0} (f : X → Y) (xs : List X) (i : ℕ) (x : X) → slice_get xs i ≡ Some x → slice_get (map f xs) i ≡ Some (f x)
-nth-map f [] i x e = let z : ◌≡◌ {A = ℕ} 0 1 = cc in absurd (omega arith)
-nth-map f (y ∷ xs) zero x e = let q : y ≡ x = cc in ap (λ z. Some (f z)) q
-nth-map f (y ∷ xs) (suc i) x e = nth-map f xs i x e
+nth-map : {X Y : Type 0} (f : X → Y) (xs : List X) (i : ℕ) (x : X) → slice_get xs i ≡ Some x → slice_get (map f xs) i ≡ Some (f x)
+nth-map f xs i x e = slice_get-map f xs i ∙ ap (option_map f) e
 
 module _ (G : Model) (ts : List Token) where
   pub terminal_hit : (r a i j : ℕ) (t : Token) → slice_get ts i ≡ Some t → Means r (λ d. (d < 64) × (d ≡ t.column)) → j ≡ i + 1

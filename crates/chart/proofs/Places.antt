@@ -1,4 +1,5 @@
-use Rattle.std.proofs.Common.{◌≡◌, ℕ, zero, suc, ◌+◌, ◌-◌, ◌*◌, ◌/◌, ◌%◌, ◌<◌, ◌≤◌, sym, refl, ap, ◌∙◌, ⊎_elim, suc-mul, mul_comm, mul-suc, add-one, arith}
+use Rattle.std.proofs.Common.{◌≡◌, ℕ, zero, suc, ◌+◌, ◌-◌, ◌*◌, ◌/◌, ◌%◌, ◌<◌, ◌≤◌, sym, refl, ap, ◌∙◌, ⊎_elim, suc-mul, mul_comm}
+use Rattle.std.proofs.Common.{mul-suc, add-one, arith}
 use native.Mathlib.Nat.{mul-sub}
 use Rattle.std.proofs.lemmas.Nat.{mul-add-lt, div-mul-add, mod-mul-add}
 use Rattle.std.proofs.lemmas.Bool.{cases_lt, cases_order}
@@ -12,6 +13,11 @@ tri_square (suc m) = omega (arith, tri_square m, suc-mul m (suc m), mul-suc m m)
 
 pub tri-is : (j : ℕ) → 0 < j → j * (j - 1) / 2 ≡ tri j
 tri-is j h = omega (arith, tri_square j, mul-sub j j 1)
+
+-- where a number stands, as it is reckoned
+pub place_is : (n m a i j : ℕ) → n ≡ m → 0 < j → (j * (j - 1) / 2 + i) * n + a ≡ cell_place m a i j
+unfolding cell_place
+place_is n m a i j e h = rw e (ap (λ (x : ℕ). (x + i) * m + a) (tri-is j h))
 
 pub tri_suc : (j : ℕ) → tri (j + 1) ≡ tri j + j
 unfolding tri

@@ -1,5 +1,5 @@
 -- Rows of items and nodes: taken apart, and put together.
-use Rattle.std.proofs.Common.{◌≡◌, ℕ, zero, suc, ◌+◌, ◌<◌, ◌≤◌, List, [], ◌∷◌, length, Some, None, Option, sym, refl, subst, arith}
+use Rattle.std.proofs.Common.{◌≡◌, ℕ, suc, ◌+◌, ◌<◌, ◌≤◌, List, [], ◌∷◌, length, Some, None, Option, sym, refl, subst, arith}
 use Rattle.std.specs.List.{slice_get}
 use Rattle.columns.specs.Relation.{Meets}
 use Rattle.columns.specs.Mask.{Near}
@@ -21,11 +21,6 @@ same_some o p q e f = cc
 
 pub not_both : {X : Type 0} (o : Option X) (p : X) → o ≡ Some p → o ≡ None → ⊥
 not_both o p e f = let z : ◌≡◌ {A = ℕ} 0 1 = cc in omega arith
-
-pub nth-some : {X : Type 0} (xs : List X) (i : ℕ) (x : X) → slice_get xs i ≡ Some x → i < length xs
-nth-some [] i x e = let z : ◌≡◌ {A = ℕ} 0 1 = cc in omega arith
-nth-some (y ∷ xs) zero x e = omega arith
-nth-some (y ∷ xs) (suc i) x e = omega (arith, nth-some xs i x e)
 
 module _ (G : Model) (ts : List Token) where
   -- ---- an item

@@ -3,6 +3,7 @@ use Rattle.std.proofs.Common.{◌≡◌, ℕ, ◌+◌, ◌<◌, ◌≤◌, List,
 use lib.Bits.{bit_or}
 use Rattle.std.proofs.lemmas.Bool.{cases_lt}
 use Rattle.std.specs.List.{slice_get}
+use Rattle.std.proofs.lemmas.Option.{slice_get_within}
 use Rattle.columns.specs.Mask.{Means}
 use Rattle.columns.proofs.Sets.{means_as, means_none, means_or}
 use Rattle.grammar.specs.Model.{Items}
@@ -11,7 +12,7 @@ use Rattle.grammar.specs.Model.{Model}
 use Rattle.grammar.specs.Several.{listed}
 use Rattle.text.specs.declared.token.Token.{Token}
 use Rattle.chart.specs.Readings.{Derives, Row, ByRule, ItemsOf}
-use Rattle.chart.proofs.Rows.{same_some, nth-some, derives_rule, rule_derives}
+use Rattle.chart.proofs.Rows.{same_some, derives_rule, rule_derives}
 
 -- one of the rules below n can stand at the node
 abbrev pub Rules : Model → List Token → ℕ → ℕ → ℕ → ℕ → ℕ → Type 0
@@ -55,4 +56,4 @@ module _ (G : Model) (ts : List Token) (A i j : ℕ) where
       means_as e (λ c h. rule_derives G ts A i j c h.0 h.2)
       (λ c h.
       let q = derives_rule G ts A i j c h in
-      (q.0, omega (arith, nth-some G.rules q.0 q.1.0 q.1.1), q.1))
+      (q.0, omega (arith, slice_get_within G.rules q.0 q.1.0 q.1.1), q.1))

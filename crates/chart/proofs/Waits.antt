@@ -1,5 +1,6 @@
 -- What waits for the items of a node: within its tokens, with fewer nodes, and with its trees below it.
-use Rattle.std.proofs.Common.{◌≡◌, ℕ, suc, ◌+◌, ◌-◌, ◌<◌, ◌≤◌, List, [], ◌∷◌, ◌++◌, map, length, sym, refl, ap, ◌∙◌, subst, append_assoc, arith}
+use Rattle.std.proofs.Common.{◌≡◌, ℕ, suc, ◌+◌, ◌-◌, ◌<◌, ◌≤◌, List, [], ◌∷◌, ◌++◌, map, length, sym, refl, ap, ◌∙◌, subst, append_assoc}
+use Rattle.std.proofs.Common.{arith}
 use Rattle.std.specs.List.{AllByRecursion}
 use Rattle.std.proofs.ByRecursion.{All-append}
 use Rattle.std.proofs.lemmas.List.{append-nil, map-append}
@@ -15,8 +16,7 @@ use Rattle.chart.specs.declared.waiting.Waiting.{Waiting}
 use Rattle.chart.specs.Place.{nodes_of}
 use Rattle.chart.specs.Trees.{Children, preorder, preorders}
 use Rattle.chart.specs.Readings.{Part}
-use Rattle.chart.specs.First.{Firsts, Shortest}
-use Rattle.chart.specs.Chart.{Within}
+use Rattle.chart.specs.First.{First, Firsts, Shortest}
 use Rattle.chart.specs.Nodes.{Tells}
 use Rattle.chart.specs.Waits.{Due, covered, rooms, Rest, Awaits, Divided}
 use Rattle.chart.proofs.Rows.{near_grows, row_grows}
@@ -42,23 +42,25 @@ module _ (G : Model) (ts : List Token) where
 
   await_covered : (x : Item) (s : Symbol) (c i k : ℕ) (ws : List Waiting) → Awaits G ts x s c i k ws → covered ws ≤ k - i
   await_covered x (Terminal a) c i k ws h = omega (arith, ap covered h)
-  await_covered x (Nonterminal b) c i k ws h = omega (arith, ap covered h.1)
+  await_covered x (Nonterminal b) c i k ws (w, e, s, f, t, l) = omega (arith, ap covered e)
 
   pub await_rooms : (n : ℕ) (x : Item) (s : Symbol) (c i k : ℕ) (ws : List Waiting) → Awaits G ts x s c i k ws
       → rooms n ws ≤ nodes_of n (k - i)
   await_rooms n x (Terminal a) c i k ws h = omega (arith, ap (rooms n) h)
-  await_rooms n x (Nonterminal b) c i k ws h = omega (arith, ap (rooms n) h.1)
+  await_rooms n x (Nonterminal b) c i k ws (w, e, s, f, t, l) =
+      let p : nodes_of n (w.stretch.to - w.stretch.from) ≡ nodes_of n (k - i) = rw (f, t) refl in
+      omega (arith, ap (rooms n) e)
 
-  await_due : (x : Item) (s : Symbol) (c i k : ℕ) (ws : List Waiting) → x.symbol ≡ s → Below G s → Within ts i k → Awaits G ts x s c i k ws
-      → AllByRecursion (Due G ts) ws
-  await_due x (Terminal a) c i k ws e l w h = subst (AllByRecursion (Due G ts)) (sym h) tt
-  await_due x (Nonterminal b) c i k ws e l w (d, h, m) =
+  await_due : (x : Item) (s : Symbol) (c i k : ℕ) (ws : List Waiting) → x.symbol ≡ s → Below G s → k ≤ length ts
+      → Awaits G ts x s c i k ws → AllByRecursion (Due G ts) ws
+  await_due x (Terminal a) c i k ws e l n h = subst (AllByRecursion (Due G ts)) (sym h) tt
+  await_due x (Nonterminal b) c i k ws e l n (w, h, s, f, t, m) =
+      let p : Part G ts (Nonterminal b) i k w.column = subst (λ (y : Symbol). Part G ts y i k w.column) e m.part in
       subst (AllByRecursion (Due G ts)) (sym h) (
         record {
-          low = l;
-          within = w;
-          some = subst (λ (y : Symbol). Part G ts y i k d) e
-              m.part;
+          low = rw s l;
+          within = rw t n;
+          some = rw (s, f, t) p;
         },
         tt,
       )
@@ -83,7 +85,7 @@ module _ (G : Model) (ts : List Token) where
   divided_due (x ∷ xs) c i j ws b n (k, us, vs, e, s, a, h) =
       let l = short-first x xs i j c k s in
       subst (AllByRecursion (Due G ts)) (sym e)
-      (All-append (Due G ts) us vs (await_due x x.symbol c i k us refl b.0 (l.0, omega arith) a)
+      (All-append (Due G ts) us vs (await_due x x.symbol c i k us refl b.0 (omega arith) a)
       (divided_due xs c k j vs b.1 n h))
 
   pub divided_rooms : (n : ℕ) (x : Item) (xs : List Item) (c i j : ℕ) (ws : List Waiting) → Divided G ts (x ∷ xs) c i j ws
@@ -124,12 +126,16 @@ module _ (G : Model) (ts : List Token) where
         (a, e, subst (λ (m : ℕ). Shortest G ts x xs i j c m) o s, subst (λ (m : ℕ). Firsts G ts cs xs m j c) o f),
         subst (λ (y : List Node). (map (λ n. n.rule) (y ++ qs) ≡ preorders cs) × AllByRecursion (Tells G) (y ++ qs)) (sym z) u,
       )
-  item-written x xs (Nonterminal b) c i k j us ps qs cs e s (d, w, l) r f u =
-      let q = subst (λ (y : List Waiting). Rest G ts y ps) w r in
+  item-written x xs (Nonterminal b) c i k j us ps qs cs e s (w, h, g, o, v, l) r f u =
+      let q = subst (λ (y : List Waiting). Rest G ts y ps) h r in
       let z : ps ≡ q.0 = q.2 ∙ ap (λ (y : List Node). q.0 ++ y) q.4 ∙ append-nil q.0 in
-      let t = q.3 in (
+      let t = q.3 in
+      let first : First G ts t.0 b i k w.column =
+      subst (λ (y : ℕ). First G ts t.0 b i y w.column) v
+      (subst (λ (y : ℕ). First G ts t.0 b y w.stretch.to w.column) o
+      (subst (λ (y : ℕ). First G ts t.0 y w.stretch.from w.stretch.to w.column) g t.1)) in (
         Children.tree t.0 cs,
-        (b, k, d, e, s, l, t.1, f),
+        (b, k, w.column, e, s, l, first, f),
         subst (λ (y : List Node). (map (λ n. n.rule) (y ++ qs) ≡ preorder t.0 ++ preorders cs) × AllByRecursion (Tells G) (y ++ qs))
             (sym z) (
               map-append (λ (n : Node). n.rule) q.0 qs ∙ ap (λ (y : List ℕ). y ++ map (λ (n : Node). n.rule) qs) t.2.numbers

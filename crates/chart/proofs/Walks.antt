@@ -1,5 +1,6 @@
 -- The walk that writes the first tree, node by node.
-use Rattle.std.proofs.Common.{◌≡◌, ℕ, ◌+◌, ◌-◌, ◌<◌, ◌≤◌, List, [], ◌∷◌, ◌++◌, length, drop, set, sym, refl, ap, ◌∙◌, subst, append_assoc, arith, length-append}
+use Rattle.std.proofs.Common.{◌≡◌, ℕ, ◌+◌, ◌-◌, ◌<◌, ◌≤◌, List, [], ◌∷◌, ◌++◌, length, drop, set, sym, refl, ap, ◌∙◌, subst, append_assoc}
+use Rattle.std.proofs.Common.{arith, length-append}
 use lib.Seq.{set-append_seam}
 use Rattle.std.specs.List.{AllByRecursion}
 use Rattle.std.proofs.ByRecursion.{All-append}
@@ -23,25 +24,20 @@ pub record Walking (G : Model) (ts : List Token) (top : Waiting) (old : List Nod
   pub front : now ≡ done ++ drop (length done) old
   pub writes : (ns : List Node) → Rest G ts ws ns → Writes G ts top (done ++ ns)
 
+-- each covers some token
+pub few_wait : (ws : List Waiting) → length ws ≤ covered ws
+few_wait [] = omega arith
+few_wait (w ∷ ws) = omega (arith, w.stretch.some, few_wait ws)
+
 module _ (G : Model) (ts : List Token) where
-  pub few_wait : (ws : List Waiting) → AllByRecursion (Due G ts) ws → length ws ≤ covered ws
-  few_wait [] h = omega arith
-  few_wait (w ∷ ws) h = omega (arith, h.0.within.0, few_wait ws h.1)
-
   pub one-room : (w : Waiting) → Due G ts w → 0 < rooms G.nonterminals (w ∷ [])
-  one-room w h = omega (arith, nodes-some G.nonterminals (w.to - w.from) (omega (arith, h.within.0)), h.low)
-
-  pub walk_less : (w : Waiting) (n : Node) (vs ws before after : List Waiting) → Entered G ts w n vs → before ≡ w ∷ ws → after ≡ vs ++ ws
-      → rooms G.nonterminals after < rooms G.nonterminals before
-  walk_less w n vs ws before after e b a =
-      let m = G.nonterminals in
-      omega (arith, ap (rooms m) a, ap (rooms m) b, rooms-append m vs ws, e.room)
+  one-room w h = omega (arith, nodes-some G.nonterminals (w.stretch.to - w.stretch.from) (omega (arith, w.stretch.some)), h.low)
 
   module _ (top : Waiting) (old : List Node) where
     pub walk_start : Due G ts top → rooms G.nonterminals (top ∷ []) ≤ length old → Walking G ts top old (top ∷ []) 0 old
     walk_start h l = record {
       due = (h, tt);
-      short = omega (arith, h.within.1);
+      short = omega (arith, h.within);
       room = omega arith;
       done = [];
       long = refl;
@@ -90,3 +86,9 @@ module _ (G : Model) (ts : List Token) where
       h.long,
       h.front ∙ ap (λ (m : ℕ). h.done ++ drop m old) (sym h.long),
     )
+
+    -- where each place is written, nothing waits
+    pub walk_full : (ws : List Waiting) (count : ℕ) (now : List Node) → Walking G ts top old ws count now → length old ≤ count
+        → (ns : List Node) × Writes G ts top ns × (count ≡ length ns) × (now ≡ ns ++ drop count old)
+    walk_full [] count now h l = walk_end count now h
+    walk_full (w ∷ ws) count now h l = absurd (omega (arith, walk_room w ws count now h))

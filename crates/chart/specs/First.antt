@@ -1,10 +1,12 @@
 -- The first reading of tokens, chosen from the top down.
 --   LowestRule     the lowest rule that can be completed at a node with A over the tokens from i up to j at column c
+--   CutAt          x can end at k, and the others, xs, can be completed from there up to j
 --   Shortest       k is the end of the shortest first item, x, with which the others, xs, can be completed up to j
 --   Least          d is the least column that meets the item's relation and lets its stretch be completed
 --   First          the tree is chosen so at each node, with A and column c on top, over the tokens from i up to j
 --   Firsts         so are the trees under a node at column c, whose items divide the tokens from i up to j
 --   FirstReading   the tree stands over all tokens, and its top takes the least column from which there is a reading
+--   Reads          there is a reading of the first p tokens
 --   Reach          among the tokens below n, the last one p with p = 0 or a reading of the first p tokens
 use Rattle.std.specs.Prelude.{◌≡◌, ℕ, suc, ◌<◌, ◌⊎◌, List, [], ◌∷◌, length, take, Some}
 use Rattle.std.specs.List.{slice_get}
@@ -23,6 +25,10 @@ use Rattle.chart.specs.Readings.{Derives, Part, Row, ByRule, Reading}
 pub record LowestRule (G : Model) (ts : List Token) (A i j c r : ℕ) : Type 0 where
   pub fits : ByRule G ts r A i j c
   pub least : (q : ℕ) → q < r → ByRule G ts q A i j c → ⊥
+
+-- the first item ends at k, and the others can be completed behind it
+abbrev pub CutAt : Model → List Token → Item → List Item → ℕ → ℕ → ℕ → ℕ → Type 0
+CutAt G ts x xs i j c k = Near x.relation (Part G ts x.symbol i k) c × Row G ts xs k j c
 
 pub record Shortest (G : Model) (ts : List Token) (x : Item) (xs : List Item) (i j c k : ℕ) : Type 0 where
   pub front : Near x.relation (Part G ts x.symbol i k) c
@@ -53,6 +59,9 @@ abbrev mutual
 abbrev pub FirstReading : Model → List Token → ℕ → Tree → Type 0
 FirstReading G ts A t =
     (c : ℕ) × First G ts t A 0 (length ts) c × ((d : ℕ) → d < c → Derives G ts A 0 (length ts) d → ⊥)
+
+abbrev pub Reads : Model → List Token → ℕ → ℕ → Type 0
+Reads G ts A p = (t : Tree) × Reading G (take p ts) A t
 
 pub record Reach (G : Model) (ts : List Token) (A n p : ℕ) : Type 0 where
   pub within : p < n

@@ -4,6 +4,7 @@ pub mod Fits
 pub mod Readings
 pub mod First
 pub mod Cut
+pub mod Board
 pub mod Chart
 pub mod Nodes
 pub mod Waits

@@ -1,22 +1,12 @@
 -- Node records of a tree.
---   shape_of   what the items of a rule cover
---   Tells      a node record tells the left symbol and the shape of its rule
---   Holds      node records are those of the tree, in preorder
+--   Tells   a node record tells the left symbol and the shape of its rule
+--   Holds   node records are those of the tree, in preorder
 use Rattle.std.specs.Prelude.{◌≡◌, List, map, Some}
 use Rattle.std.specs.List.{slice_get, AllByRecursion}
-use Rattle.grammar.specs.Model.{Items}
-use Rattle.grammar.specs.declared.several.Several.TheVariants as items
 use Rattle.grammar.specs.declared.rule.Rule.{Rule}
-use Rattle.grammar.specs.Model.{Model, child_of}
+use Rattle.grammar.specs.Model.{Model, shape_of}
 use Rattle.tree.specs.declared.node.Node.{Node}
-use Rattle.grammar.specs.Model.{Shape}
-use Rattle.grammar.specs.declared.several.Several.TheVariants.{One, Two, Three}
 use Rattle.chart.specs.Trees.{Tree, preorder}
-
-abbrev pub shape_of : Items → Shape
-shape_of (items.One x) = One (child_of x.symbol)
-shape_of (items.Two x y) = Two (child_of x.symbol) (child_of y.symbol)
-shape_of (items.Three x y z) = Three (child_of x.symbol) (child_of y.symbol) (child_of z.symbol)
 
 pub record Tells (G : Model) (n : Node) : Type 0 where
   pub rule : Rule

@@ -1,4 +1,5 @@
 -- Nodes of the first reading that wait to be written, the next one first.
+--   waiting   what is on the stack, the last one in first
 --   Due       a tree can be completed there
 --   covered   how many tokens they cover
 --   rooms     how many nodes their trees have at most
@@ -8,10 +9,10 @@
 --   Divided   what waits for a row of items that divide the tokens from i up to j
 --   Adds      what is added on top of what waited
 --   Entered   the node is written, and these wait in its place
---   whole     what waits at the start: a tree with that nonterminal and column on top over all tokens
 --   Wrote     the nodes of the first tree stand in front, and behind them all is as it was
-use Rattle.std.specs.Prelude.{◌≡◌, ℕ, ◌+◌, ◌-◌, ◌<◌, ◌≤◌, List, [], ◌∷◌, ◌++◌, length, drop}
+use Rattle.std.specs.Prelude.{◌≡◌, ℕ, ◌+◌, ◌-◌, ◌<◌, ◌≤◌, List, [], ◌∷◌, ◌++◌, length, drop, reverse}
 use Rattle.std.specs.List.{AllByRecursion}
+use Rattle.arrayvec.specs.ArrayVec.{ArrayVec}
 use Rattle.grammar.specs.declared.rule.Symbol.{Symbol}
 use Rattle.grammar.specs.declared.rule.Symbol.TheVariants.{Terminal, Nonterminal}
 use Rattle.grammar.specs.declared.rule.Item.{Item}
@@ -26,21 +27,24 @@ use Rattle.chart.specs.First.{First, Shortest, Least}
 use Rattle.chart.specs.Chart.{Within}
 use Rattle.chart.specs.Nodes.{Holds}
 
+abbrev pub waiting : ArrayVec Waiting → List Waiting
+waiting stack = reverse stack.items
+
 pub record Due (G : Model) (ts : List Token) (w : Waiting) : Type 0 where
   pub low : w.symbol < G.nonterminals
-  pub within : Within ts w.from w.to
-  pub some : Derives G ts w.symbol w.from w.to w.column
+  pub within : Within ts w.stretch
+  pub some : Derives G ts w.symbol w.stretch.from w.stretch.to w.column
 
 abbrev pub covered : List Waiting → ℕ
 covered [] = 0
-covered (w ∷ ws) = (w.to - w.from) + covered ws
+covered (w ∷ ws) = (w.stretch.to - w.stretch.from) + covered ws
 
 abbrev pub rooms : ℕ → List Waiting → ℕ
 rooms n [] = 0
-rooms n (w ∷ ws) = (nodes_of n (w.to - w.from) - w.symbol) + rooms n ws
+rooms n (w ∷ ws) = (nodes_of n (w.stretch.to - w.stretch.from) - w.symbol) + rooms n ws
 
 abbrev pub Writes : Model → List Token → Waiting → List Node → Type 0
-Writes G ts w ns = (t : Tree) × First G ts t w.symbol w.from w.to w.column × Holds G ns t
+Writes G ts w ns = (t : Tree) × First G ts t w.symbol w.stretch.from w.stretch.to w.column × Holds G ns t
 
 abbrev pub Rest : Model → List Token → List Waiting → List Node → Type 0
 Rest G ts [] ns = ns ≡ []
@@ -49,7 +53,7 @@ Rest G ts (w ∷ ws) ns = (us : List Node) × (vs : List Node) × (ns ≡ us ++ 
 abbrev pub Awaits : Model → List Token → Item → Symbol → ℕ → ℕ → ℕ → List Waiting → Type 0
 Awaits G ts x (Terminal a) c i j ws = ws ≡ []
 Awaits G ts x (Nonterminal b) c i j ws =
-    (d : ℕ) × (ws ≡ record { symbol = b; column = d; from = i; to = j } ∷ []) × Least G ts x i j c d
+    (w : Waiting) × (ws ≡ w ∷ []) × (w.symbol ≡ b) × (w.stretch.from ≡ i) × (w.stretch.to ≡ j) × Least G ts x i j c w.column
 
 abbrev pub Divided : Model → List Token → List Item → ℕ → ℕ → ℕ → List Waiting → Type 0
 Divided G ts [] c i j ws = (i ≡ j) × (ws ≡ [])
@@ -62,12 +66,9 @@ Adds old new P = (ws : List Waiting) × (new ≡ ws ++ old) × P ws
 
 pub record Entered (G : Model) (ts : List Token) (w : Waiting) (n : Node) (ws : List Waiting) : Type 0 where
   pub due : AllByRecursion (Due G ts) ws
-  pub short : covered ws ≤ w.to - w.from
+  pub short : covered ws ≤ w.stretch.to - w.stretch.from
   pub room : rooms G.nonterminals ws < rooms G.nonterminals (w ∷ [])
   pub writes : (ns : List Node) → Rest G ts ws ns → Writes G ts w (n ∷ ns)
-
-abbrev pub whole : List Token → ℕ → ℕ → Waiting
-whole ts symbol column = record { symbol = symbol; column = column; from = 0; to = length ts }
 
 abbrev pub Wrote : Model → List Token → Waiting → List Node → List Node → ℕ → Type 0
 Wrote G ts w old new count = (ns : List Node) × Writes G ts w ns × (count ≡ length ns) × (new ≡ ns ++ drop count old)

@@ -1,56 +1,54 @@
 ghost use Rattle.std.specs.Prelude.{◌+◌, ◌≤◌, length};
-ghost use Rattle.chart.specs.Chart.{Board, Within, Done};
+ghost use Rattle.chart.specs.Chart.{Within, Done, Same, inside};
 
 use crate::chart::Chart;
-use crate::place::place;
+use crate::filled::FilledChart;
+use crate::stretch::Stretch;
 use grammar::grammar::Grammar;
-use text::token::Token;
 
-// Writes the whole chart.
-pub(crate) fn fill<'a, G: Grammar>(grammar: &'a G, tokens: &'a [Token], cells: &mut [u64])
-    requires board { Board (G.model grammar.now) tokens.now cells.old }
-    ensures after { Done (G.model grammar.now) tokens.now cells.new
-        0 (length tokens.now) }
-{
-    for last in 0..tokens.len() {
-        fill_end(grammar, tokens, cells, last + 1);
+impl<'a, 'c, G: Grammar> Chart<'a, 'c, G> {
+    // The chart with all its numbers written.
+    pub(crate) fn filled(mut self) -> FilledChart<'a, 'c, G>
+        ensures { Same self.entry result.chart }
+    {
+        self.fill();
+        FilledChart { chart: self }
     }
-}
 
-// Writes the numbers of all stretches that end at j, the shortest first.
-fn fill_end<'a, G: Grammar>(grammar: &'a G, tokens: &'a [Token], cells: &mut [u64], j: usize)
-    requires board { Board (G.model grammar.now) tokens.now cells.old }
-    requires end { j ≤ length tokens.now }
-    requires before { Done (G.model grammar.now) tokens.now cells.old j j }
-    ensures after { Done (G.model grammar.now) tokens.now cells.new 0 j }
-{
-    for i in (0..j).rev() {
-        fill_stretch(grammar, tokens, cells, i, j);
-    }
-}
-
-// Writes the numbers of all nonterminals for the stretch from i up to j.
-// The highest come first, since a rule with one nonterminal item leads from a lower one to a higher one.
-fn fill_stretch<'a, G: Grammar>(
-    grammar: &'a G,
-    tokens: &'a [Token],
-    cells: &mut [u64],
-    i: usize,
-    j: usize,
-)
-    requires board { Board (G.model grammar.now) tokens.now cells.old }
-    requires within { Within tokens.now i j }
-    requires before { Done (G.model grammar.now) tokens.now cells.old (i + 1) j }
-    ensures after { Done (G.model grammar.now) tokens.now cells.new i j }
-{
-    let n = grammar.nonterminals();
-    for a in (0..n).rev() {
-        let columns = Chart {
-            grammar,
-            tokens,
-            cells,
+    // Writes the whole chart.
+    fn fill(&mut self)
+        ensures after { inside self.new Done 0 (length self.new.tokens.now) }
+        ensures same { Same self.old self.new }
+    {
+        for to in 1..=self.tokens.len() as u8 {
+            self.fill_end(to);
         }
-        .cell(a, i, j);
-        cells[place(n as usize, a as usize, i, j)] = columns;
+    }
+
+    // Writes the numbers of all stretches that end there, the shortest first.
+    fn fill_end(&mut self, to: u8)
+        requires end { to ≤ length self.old.tokens.now }
+        requires before { inside self.old Done to to }
+        ensures after { inside self.new Done 0 to }
+        ensures same { Same self.old self.new }
+    {
+        for from in (0..to).rev() {
+            self.fill_stretch(Stretch { from, to });
+        }
+    }
+
+    // Writes the numbers of all nonterminals for the stretch.
+    // The highest come first, since a rule with one nonterminal item leads from a lower one to a higher one.
+    fn fill_stretch(&mut self, s: Stretch)
+        requires within { Within self.old.tokens.now s }
+        requires before { inside self.old Done (s.from + 1) s.to }
+        ensures after { inside self.new Done s.from s.to }
+        ensures same { Same self.old self.new }
+    {
+        for a in (0..self.grammar.nonterminals()).rev() {
+            let columns = self.cell(a, s);
+            let place = self.place(a, s);
+            self.cells[place] = columns.bits;
+        }
     }
 }

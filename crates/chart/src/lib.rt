@@ -3,8 +3,9 @@
 #![tactic(auto)]
 
 mod chart;
-mod cut;
 mod fill;
+mod filled;
+mod item_row;
 pub mod memory;
 mod part;
 mod pick;
@@ -12,5 +13,6 @@ mod place;
 mod reach;
 pub mod read;
 mod row;
+mod stretch;
 mod waiting;
 mod walk;

@@ -9,15 +9,7 @@ impl Drop for ChartMemory<'_> {
     fn drop(self)
         ensures { self.exit.0.now ≡ replicate (length self.exit.0.now) 0 }
     {
-        write_zeros(self.cells);
+        self.cells.fill(0);
         let ChartMemory { cells: _ } = self;
-    }
-}
-
-fn write_zeros(cells: &mut [u64])
-    ensures { cells.new ≡ replicate (length cells.old) 0 }
-{
-    for cell in cells {
-        *cell = 0;
     }
 }

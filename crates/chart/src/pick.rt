@@ -1,90 +1,61 @@
-ghost use Rattle.std.specs.Prelude.{◌<◌, [], ◌∷◌, Some as Is};
-ghost use Rattle.grammar.specs.Lawful.{Below};
-ghost use Rattle.chart.specs.Chart.{Ready, Within, Filled, under};
-ghost use Rattle.chart.specs.Readings.{Row, ItemsOf, Derives};
-ghost use Rattle.chart.specs.First.{LowestRule, Shortest};
+ghost use Rattle.std.specs.Prelude.{◌≡◌, ◌<◌, true, false, ◌∷◌, Some as Is};
+ghost use Rattle.chart.specs.Chart.{Within, AllBelow, under};
+ghost use Rattle.chart.specs.Readings.{Row, ItemsOf};
+ghost use Rattle.chart.specs.First.{LowestRule, Shortest, CutAt};
+ghost use Rattle.chart.specs.Waits.{Due};
 
-use crate::chart::Chart;
-use crate::cut::{first_begin, past_end};
-use columns::mask::has;
+use crate::filled::FilledChart;
+use crate::item_row::ItemRow;
+use crate::stretch::Stretch;
+use crate::waiting::Waiting;
 use grammar::grammar::Grammar;
-use grammar::rule::{Item, Items};
+use grammar::rule::{Expansion, Item};
 
-// The rule that is taken at a node: its number and its items.
-#[derive(Clone, Copy)]
-pub(crate) struct Choice {
-    pub(crate) number: u8,
-    pub(crate) items: Items,
-}
-
-impl<G: Grammar> Chart<'_, '_, G> {
-    // The lowest rule of nonterminal a that can be completed over the tokens from i up to j at that column.
-    pub(crate) fn lowest_rule(&self, a: u8, column: u8, i: usize, j: usize) -> Choice
-        requires ready { Ready G.model self.now }
-        requires filled { Filled G.model self.now }
-        requires within { Within self.now.tokens.now i j }
-        requires some { under G.model self.now Derives a i j column }
-        ensures lowest { under G.model self.now LowestRule a i j column result.number }
-        ensures items { under G.model self.now ItemsOf a result.number (Is result.items) }
+impl<G: Grammar> FilledChart<'_, '_, G> {
+    // The lowest rule that can be completed at a node that waits.
+    pub(crate) fn lowest_rule(&self, next: Waiting) -> Expansion
+        requires due { under self.now.chart Due next }
+        ensures lowest { under self.now.chart LowestRule next.symbol next.stretch.from next.stretch.to next.column result.rule }
+        ensures items { under self.now.chart ItemsOf next.symbol result.rule (Is result.items) }
     {
-        for number in 0..self.grammar.rules() {
-            if let Some(items) = self.items_of(a, number) {
-                if has(self.row(items, a, i, j), column) {
-                    return Choice { number, items };
+        // By number, as a grammar tells its rules.
+        for number in 0..self.chart.grammar.rules() {
+            if let Some(items) = self.chart.items_of(next.symbol, number) {
+                let columns = self.chart.row(items, next.symbol, next.stretch);
+                if columns.has(next.column) {
+                    return Expansion {
+                        rule: number,
+                        items,
+                    };
                 }
             }
         }
         unreachable()
     }
 
-    // The end of the shortest first of two items.
-    pub(crate) fn cut_two(&self, x: Item, y: Item, column: u8, i: usize, j: usize) -> usize
-        requires ready { Ready G.model self.now }
-        requires filled { Filled G.model self.now }
-        requires within { Within self.now.tokens.now i j }
-        requires first { Below (G.model self.now.grammar.now) x.symbol }
-        requires second { Below (G.model self.now.grammar.now) y.symbol }
-        requires some { under G.model self.now Row (x ∷ y ∷ []) i j column }
-        ensures within { (i < result) × (result < j) }
-        ensures first { under G.model self.now Shortest x (y ∷ []) i j column result }
+    // The end of the shortest first item, with which the others can be completed.
+    pub(crate) fn cut<R: ItemRow>(&self, x: Item, rest: R, column: u8, s: Stretch) -> u8
+        requires within { Within self.now.chart.tokens.now s }
+        requires below { under self.now.chart AllBelow (x ∷ R.first rest ∷ R.others rest) }
+        requires some { under self.now.chart Row (x ∷ R.first rest ∷ R.others rest) s.from s.to column }
+        ensures within { (s.from < result) × (result < s.to) }
+        ensures first { under self.now.chart Shortest x (R.first rest ∷ R.others rest) s.from s.to column result }
     {
-        for cut in first_begin(y.symbol, i, j)..past_end(x.symbol, i, j) {
-            let front = self.row_one(x, i, cut);
-            let back = self.row_one(y, cut, j);
-            if has(front & back, column) {
-                return cut;
-            }
-        }
-        unreachable()
+        (rest.first_begin(s)..s.past_end(x.symbol))
+            .find(|&cut| self.can_cut(x, rest, column, s, cut))
+            .unwrap()
     }
 
-    // The end of the shortest first of three items.
-    pub(crate) fn cut_three(
-        &self,
-        x: Item,
-        y: Item,
-        z: Item,
-        column: u8,
-        i: usize,
-        j: usize,
-    ) -> usize
-        requires ready { Ready G.model self.now }
-        requires filled { Filled G.model self.now }
-        requires within { Within self.now.tokens.now i j }
-        requires first { Below (G.model self.now.grammar.now) x.symbol }
-        requires second { Below (G.model self.now.grammar.now) y.symbol }
-        requires third { Below (G.model self.now.grammar.now) z.symbol }
-        requires some { under G.model self.now Row (x ∷ y ∷ z ∷ []) i j column }
-        ensures within { (i < result) × (result < j) }
-        ensures first { under G.model self.now Shortest x (y ∷ z ∷ []) i j column result }
+    // Whether the items of a node at that column can divide the stretch so that the first one ends at the cut.
+    fn can_cut<R: ItemRow>(&self, x: Item, rest: R, column: u8, s: Stretch, cut: u8) -> bool
+        requires within { Within self.now.chart.tokens.now s }
+        requires below { under self.now.chart AllBelow (x ∷ R.first rest ∷ R.others rest) }
+        requires inside { (s.from < cut) × (cut < s.to) }
+        ensures yes { result ≡ true → under self.now.chart CutAt x (R.first rest ∷ R.others rest) s.from s.to column cut }
+        ensures no { result ≡ false → under self.now.chart CutAt x (R.first rest ∷ R.others rest) s.from s.to column cut → ⊥ }
     {
-        for cut in i + 1..past_end(x.symbol, i, j) {
-            let front = self.row_one(x, i, cut);
-            let back = self.row_two(y, z, cut, j);
-            if has(front & back, column) {
-                return cut;
-            }
-        }
-        unreachable()
+        let front = x.columns(&self.chart, s.front(cut));
+        let back = rest.columns(&self.chart, s.back(cut));
+        (front & back).has(column)
     }
 }

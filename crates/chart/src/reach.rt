@@ -1,43 +1,47 @@
-ghost use Rattle.std.specs.Prelude.{◌≡◌, ◌<◌, length, Some};
+ghost use Rattle.std.specs.Prelude.{◌≡◌, ◌<◌, ◌≤◌, true, false, length, Some};
 ghost use Rattle.std.specs.List.{slice_get};
 ghost use Rattle.text.specs.declared.token.Token.{Token};
-ghost use Rattle.chart.specs.Chart.{Ready, Filled, under};
-ghost use Rattle.chart.specs.First.{Reach};
+ghost use Rattle.chart.specs.Chart.{under};
+ghost use Rattle.chart.specs.First.{Reads, Reach};
 ghost use Rattle.chart.specs.Answer.{place_of};
 
-use crate::chart::Chart;
+use crate::filled::FilledChart;
+use crate::stretch::Stretch;
 use faults::fault::Position;
 use grammar::grammar::Grammar;
 use grammar::rule::Symbol;
 
-impl<G: Grammar> Chart<'_, '_, G> {
+impl<G: Grammar> FilledChart<'_, '_, G> {
     // The last token that is the first one, or that a reading of the tokens before it reaches.
-    pub(crate) fn reach(&self, symbol: u8) -> usize
-        requires ready { Ready G.model self.now }
-        requires filled { Filled G.model self.now }
-        requires some { 0 < length self.now.tokens.now }
-        requires low { symbol < (G.model self.now.grammar.now).nonterminals }
-        ensures { under G.model self.now Reach symbol (length self.now.tokens.now) result }
+    pub(crate) fn reach(&self, symbol: u8) -> u8
+        requires low { symbol < (G.model self.now.chart.grammar.now).nonterminals }
+        ensures { under self.now.chart Reach symbol (length self.now.chart.tokens.now) result }
     {
-        let mut last = 0;
-        for end in 1..self.tokens.len() {
-            let columns = self.part(Symbol::Nonterminal(symbol), 0, end);
-            if columns != 0 {
-                last = end;
-            }
-        }
-        last
+        (1..self.chart.tokens.len() as u8)
+            .rev()
+            .find(|&end| self.reads(symbol, end))
+            .unwrap_or(0)
+    }
+
+    // Whether some reading of the tokens before that one reaches it.
+    fn reads(&self, symbol: u8, end: u8) -> bool
+        requires low { symbol < (G.model self.now.chart.grammar.now).nonterminals }
+        requires within { (0 < end) × (end ≤ length self.now.chart.tokens.now) }
+        ensures yes { result ≡ true → under self.now.chart Reads symbol end }
+        ensures no { result ≡ false → under self.now.chart Reads symbol end → ⊥ }
+    {
+        let front = Stretch { from: 0, to: end };
+        !self
+            .chart
+            .part(Symbol::Nonterminal(symbol), front)
+            .is_empty()
     }
 
     // Where that token begins.
-    pub(crate) fn position(&self, token: usize) -> Position
-        requires { token < length self.now.tokens.now }
-        ensures { (t : Token) × (slice_get self.now.tokens.now token ≡ Some t) × (result ≡ place_of t) }
+    pub(crate) fn position(&self, token: u8) -> Position
+        requires { token < length self.now.chart.tokens.now }
+        ensures { (t : Token) × (slice_get self.now.chart.tokens.now token ≡ Some t) × (result ≡ place_of t) }
     {
-        let token = self.tokens[token];
-        Position {
-            line: token.line,
-            column: token.column as u16,
-        }
+        Position::from(self.chart.tokens[token as usize])
     }
 }

@@ -1,5 +1,6 @@
 -- The bits of a number: of a union, an intersection, a power of two, and a run of ones.
-use Rattle.std.proofs.Common.{◌≡◌, ℕ, suc, ◌+◌, ◌-◌, ◌*◌, ◌/◌, ◌%◌, ◌^◌, ◌<◌, ◌≤◌, ◌⊎◌, subst, inl, inr, ⊎_elim, pow-suc, arith, pow_pos, pow_mono, pow-add}
+use Rattle.std.proofs.Common.{◌≡◌, ℕ, suc, ◌+◌, ◌-◌, ◌*◌, ◌/◌, ◌%◌, ◌^◌, ◌<◌, ◌≤◌, ◌⊎◌, Bool, true, false, ◌==◌, MatchBool, refl, subst}
+use Rattle.std.proofs.Common.{inl, inr, ⊎_elim, pow-suc, arith, pow_pos, pow_mono, pow-add}
 use native.Mathlib.Nat.{div-eq_of_lt}
 use lib.Count.{leading_top}
 use lib.Bits.{bit_and, bit_or, and_step, or_step, and_shr, or_shr}
@@ -83,3 +84,11 @@ bit_pow k c b =
 
 pub some_bit : (m : ℕ) → 0 < m → m < 2 ^ 64 → (c : ℕ) × Bit m c
 some_bit m p h = let t = leading_top 64 m p h in (t.0, bit_top m t.0 t.2 (omega (arith, pow-suc 2 t.0)))
+
+-- whether a number has a bit is whether it is not 0
+pub some_told : (m : ℕ) → m < 2 ^ 64 → MatchBool (m == 0) ((c : ℕ) → Bit m c → ⊥) ((c : ℕ) × Bit m c)
+some_told m h = go (m == 0) refl
+  where
+    go : (b : Bool) → (m == 0) ≡ b → MatchBool b ((c : ℕ) → Bit m c → ⊥) ((c : ℕ) × Bit m c)
+    go true e = λ c x. let z : m ≡ 0 = grind arith in bit_zero c (subst (λ (n : ℕ). Bit n c) z x)
+    go false e = some_bit m (grind arith) h

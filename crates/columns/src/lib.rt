@@ -2,5 +2,6 @@
 
 #![tactic(auto)]
 
+mod display;
 pub mod mask;
 pub mod relation;

@@ -1,76 +1,143 @@
-ghost use Rattle.std.specs.Prelude.{◌≡◌, ◌<◌, ◌≤◌, MatchBool};
+ghost use Rattle.std.specs.Prelude.{◌≡◌, ℕ, ◌<◌, ◌≤◌, MatchBool, bit_and, bit_or};
 ghost use Rattle.columns.specs.Relation.{Meets};
 ghost use Rattle.columns.specs.Mask.{Bit, Means, Near, Lowest};
 
 use crate::relation::Relation;
+use std::ops::{BitAnd, BitOr, BitOrAssign};
 
-// The set with just that column; the empty set past 63.
-pub fn only(column: u8) -> u64
-    ensures { Means result (λ d. (d < 64) × (d ≡ column)) }
-{
-    if column < 64 { 1 << column } else { 0 }
+// A set of columns, as a mask: bit c is 1 where column c belongs to it.
+#[derive(Clone, Copy)]
+pub struct ColumnSet {
+    pub bits: u64,
 }
 
-// Whether the column belongs to the set; no column past 63 does.
-pub fn has(set: u64, column: u8) -> bool
-    ensures { MatchBool result (Bit set column) (Bit set column → ⊥) }
-{
-    column < 64 && (set >> column) & 1 == 1
-}
+impl ColumnSet {
+    pub const EMPTY: ColumnSet = ColumnSet { bits: 0 };
 
-// The columns of a node that one of the item columns meets.
-pub fn node_columns(relation: Relation, items: u64) -> u64
-    ensures { Means result (Near relation (Bit items)) }
-{
-    match relation {
-        Relation::Equal => items,
-        Relation::Above => below_highest(items),
-        Relation::AtLeast => below_highest(items) | items,
-        Relation::Any => all_if_some(items),
+    pub const ALL: ColumnSet = ColumnSet { bits: u64::MAX };
+
+    // The set with just that column; the empty set past 63.
+    pub fn only(column: u8) -> ColumnSet
+        ensures { Means result.bits (λ d. (d < 64) × (d ≡ column)) }
+    {
+        ColumnSet {
+            bits: if column < 64 { 1 << column } else { 0 },
+        }
+    }
+
+    // Whether no column belongs to the set.
+    pub fn is_empty(self) -> bool
+        ensures value { MatchBool result (self.bits ≡ 0) (0 < self.bits) }
+        ensures columns { MatchBool result ((c : ℕ) → Bit self.bits c → ⊥) ((c : ℕ) × Bit self.bits c) }
+    {
+        self.bits == 0
+    }
+
+    // Whether the column belongs to the set; no column past 63 does.
+    pub fn has(self, column: u8) -> bool
+        ensures { MatchBool result (Bit self.bits column) (Bit self.bits column → ⊥) }
+    {
+        column < 64 && (self.bits >> column) & 1 == 1
+    }
+
+    // The columns of a node that one of these item columns meets.
+    pub fn node_columns(self, relation: Relation) -> ColumnSet
+        ensures { Means result.bits (Near relation (Bit self.bits)) }
+    {
+        match relation {
+            Relation::Equal => self,
+            Relation::Above => self.below_highest(),
+            Relation::AtLeast => self.below_highest() | self,
+            Relation::Any => self.all_if_some(),
+        }
+    }
+
+    // The least of these item columns that meets the relation to that node column; none where none does.
+    pub fn least(self, relation: Relation, column: u8) -> Option<u8>
+        ensures { Lowest (λ d. Bit self.bits d × Meets relation column d) result }
+    {
+        let meeting = self & ColumnSet::item_columns(relation, column);
+        if meeting.is_empty() {
+            None
+        } else {
+            Some(meeting.bits.trailing_zeros() as u8)
+        }
+    }
+
+    // The columns of an item that meet the relation to that node column.
+    fn item_columns(relation: Relation, column: u8) -> ColumnSet
+        ensures { Means result.bits (λ d. (d < 64) × Meets relation column d) }
+    {
+        match relation {
+            Relation::Equal => ColumnSet::only(column),
+            Relation::Above => ColumnSet::starting_at(column.saturating_add(1)),
+            Relation::AtLeast => ColumnSet::starting_at(column),
+            Relation::Any => ColumnSet::ALL,
+        }
+    }
+
+    // That column and all above it; none past 63.
+    fn starting_at(column: u8) -> ColumnSet
+        ensures { Means result.bits (λ d. (d < 64) × (column ≤ d)) }
+    {
+        ColumnSet {
+            bits: if column < 64 { u64::MAX << column } else { 0 },
+        }
+    }
+
+    // The columns below the highest of the set.
+    fn below_highest(self) -> ColumnSet
+        ensures { Means result.bits (Near Relation.Above (Bit self.bits)) }
+    {
+        if self.is_empty() {
+            ColumnSet::EMPTY
+        } else {
+            ColumnSet {
+                bits: (1 << self.bits.ilog2()) - 1,
+            }
+        }
+    }
+
+    // Every column, or none where the set is empty.
+    fn all_if_some(self) -> ColumnSet
+        ensures { Means result.bits (Near Relation.Any (Bit self.bits)) }
+    {
+        if self.is_empty() {
+            ColumnSet::EMPTY
+        } else {
+            ColumnSet::ALL
+        }
     }
 }
 
-// The least of the item columns that meets the relation to that node column; none where none does.
-pub fn least(relation: Relation, column: u8, items: u64) -> Option<u8>
-    ensures { Lowest (λ d. Bit items d × Meets relation column d) result }
-{
-    let meeting = items & item_columns(relation, column);
-    if meeting == 0 {
-        None
-    } else {
-        Some(meeting.trailing_zeros() as u8)
+impl BitOr for ColumnSet {
+    type Output = ColumnSet;
+
+    ghost bitor_gives = { λ a b r. r.bits ≡ bit_or a.bits b.bits };
+
+    fn bitor(self, other: ColumnSet) -> ColumnSet {
+        ColumnSet {
+            bits: self.bits | other.bits,
+        }
     }
 }
 
-// The columns of an item that meet the relation to that node column.
-fn item_columns(relation: Relation, column: u8) -> u64
-    ensures { Means result (λ d. (d < 64) × Meets relation column d) }
-{
-    match relation {
-        Relation::Equal => only(column),
-        Relation::Above => starting_at(column.saturating_add(1)),
-        Relation::AtLeast => starting_at(column),
-        Relation::Any => u64::MAX,
+impl BitOrAssign for ColumnSet {
+    ghost bitor_assign_gives = { λ a b r. r.bits ≡ bit_or a.bits b.bits };
+
+    fn bitor_assign(&mut self, other: ColumnSet) {
+        *self = *self | other;
     }
 }
 
-// That column and all above it; none past 63.
-fn starting_at(column: u8) -> u64
-    ensures { Means result (λ d. (d < 64) × (column ≤ d)) }
-{
-    if column < 64 { u64::MAX << column } else { 0 }
-}
+impl BitAnd for ColumnSet {
+    type Output = ColumnSet;
 
-// The columns below the highest of the set.
-fn below_highest(set: u64) -> u64
-    ensures { Means result (Near Relation.Above (Bit set)) }
-{
-    if set == 0 { 0 } else { (1 << set.ilog2()) - 1 }
-}
+    ghost bitand_gives = { λ a b r. r.bits ≡ bit_and a.bits b.bits };
 
-// Every column, or none where the set is empty.
-fn all_if_some(set: u64) -> u64
-    ensures { Means result (Near Relation.Any (Bit set)) }
-{
-    if set == 0 { 0 } else { u64::MAX }
+    fn bitand(self, other: ColumnSet) -> ColumnSet {
+        ColumnSet {
+            bits: self.bits & other.bits,
+        }
+    }
 }

@@ -1,7 +1,8 @@
 // How an item's column stands to the column of its node.
-#[derive(Clone, Copy)]
+#[derive(Clone, Copy, Default)]
 pub enum Relation {
     // the node's column
+    #[default]
     Equal,
     // above the node's column
     Above,

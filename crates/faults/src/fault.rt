@@ -20,7 +20,7 @@ pub enum Layer {
 }
 
 // A place in a text: lines count from 1, columns from 0.
-#[derive(Clone, Copy)]
+#[derive(Clone, Copy, Default)]
 pub struct Position {
     pub line: u16,
     pub column: u16,

@@ -87,10 +87,7 @@ impl Place {
                 column: 0,
             },
             Place::At(at) => *at,
-            Place::Nowhere | Place::Short(_) | Place::Item { .. } => Position {
-                line: 0,
-                column: 0,
-            },
+            Place::Nowhere | Place::Short(_) | Place::Item { .. } => Position::default(),
         }
     }
 }

@@ -1,5 +1,5 @@
 -- The laws of laying out, of what laying out a held tree answers.
-use Rattle.std.proofs.Common.{◌≡◌, ℕ, ◌≤◌, List, [], ◌∷◌, Ok, Err, refl, ⊎_elim, arith}
+use Rattle.std.proofs.Common.{◌≤◌, List, [], ◌∷◌, Ok, Err, refl, ⊎_elim, arith}
 use Rattle.tree.specs.declared.piece.PieceRecord.{PieceRecord}
 use Rattle.tree.specs.Pieces.{longest}
 use Rattle.layout.specs.Layouts.{lengths, listed}
@@ -22,8 +22,8 @@ answer_exact G bytes pieces rules ts (Ok l) few named tree (fits, comes) =
     (λ is. q.0 (listed l) comes.lays, λ fittable. refl)
 answer_exact G bytes pieces rules ts (Err f) few named tree laid =
     let q = minimal_exact G rules ts (lengths pieces) (short pieces few) tree in (
-      λ is. let z : ◌≡◌ {A = ℕ} 0 1 = cc in absurd (omega arith),
-      λ fittable. absurd (⊎_elim (λ no. no.1 (ts, named, tree)) (λ yes. q.1 f yes.1.lays fittable) laid),
+      λ is. cc,
+      λ fittable. absurd (⊎_elim (λ broken. broken.1 (ts, named, tree)) (λ deep. q.1 f deep.1.lays fittable) laid),
     )
 
 pub answer_breaks : AnswerBreaks

@@ -1,5 +1,6 @@
 -- Lines break where and only where they should.
-use Rattle.std.proofs.Common.{◌≡◌, ℕ, suc, ◌+◌, Bool, true, false, ◌&&◌, ◌||◌, ltb, List, [], ◌∷◌, ◌++◌, Some, Ok, Result, sym, refl, ap, ◌∙◌, subst, ap₂, add-one, arith}
+use Rattle.std.proofs.Common.{◌≡◌, ℕ, suc, ◌+◌, Bool, true, false, ◌&&◌, ◌||◌, ltb, List, [], ◌∷◌, ◌++◌, Some, Ok, Result, sym, refl, ap}
+use Rattle.std.proofs.Common.{◌∙◌, subst, ap₂, add-one}
 use mathlib.Core.Bool.{and-false, and-true, or_assoc, or_comm, or-false}
 use lib.Dec.{leb-suc-zero, leb-suc-suc, leb-zero}
 use Rattle.std.specs.List.{slice_get}
@@ -13,11 +14,11 @@ use Rattle.tree.specs.Slots.{Slot, slots}
 use Rattle.layout.specs.declared.line.Line.{Line}
 use Rattle.layout.specs.declared.placement.Placement.{Placement}
 use Rattle.layout.specs.Layouts.{Lays, start}
+use Rattle.layout.proofs.Outcomes.{prefixed_ok}
 use Rattle.layout.specs.Lines.{asked, behind, placed}
 use Rattle.chart.proofs.Rows.{same_some}
 use Rattle.chart.proofs.Once.{not_both_kinds}
 use Rattle.fitting.specs.Turns.{Turn, Turns, Breaks, asks, nodes, pieces}
-use Rattle.fitting.proofs.Laid.{prefixed_ok}
 
 -- what the turns place, on a line that is being filled
 abbrev placements : Line → List Turn → List Placement
@@ -71,7 +72,7 @@ module _ (G : Model) (P : Question → Answer) where
   pub lays_turns : {line : Line} {ss : List Slot} {rs ls : List ℕ} {out : Result (List Placement) Fault} → Lays G P line ss rs ls out
       → (ps : List Placement) → out ≡ Ok ps → (ns : List Turn) × Turns G P line.cursor ss rs ls ns
   lays_turns Lays.end ps e = ([], Turns.none)
-  lays_turns (Lays.deep high) ps e = let z : ◌≡◌ {A = ℕ} 0 1 = cc in absurd (omega arith)
+  lays_turns (Lays.deep high) ps e = cc
   lays_turns (Lays.piece {l = l} {a = a} {out = out} is low symbol rest all) ps e =
       let q = prefixed_ok _ out ps (sym all ∙ e) in
       let t = lays_turns rest q.0 q.1 in
@@ -84,7 +85,7 @@ module _ (G : Model) (P : Question → Answer) where
   pub lays_places : {line : Line} {ss : List Slot} {rs ls : List ℕ} {out : Result (List Placement) Fault} {ns : List Turn}
       → Lays G P line ss rs ls out → Turns G P line.cursor ss rs ls ns → (ps : List Placement) → out ≡ Ok ps → ps ≡ placements line ns
   lays_places Lays.end Turns.none ps e = cc
-  lays_places (Lays.deep high) turns ps e = let z : ◌≡◌ {A = ℕ} 0 1 = cc in absurd (omega arith)
+  lays_places (Lays.deep high) turns ps e = cc
   lays_places {line = line} (Lays.piece {ss = ss} {rs = rs} {ls = ls} {l = l} {a = a} {out = out} is low symbol rest all)
       (Turns.piece {a = b} {ns = ns} is2 symbol2 turns) ps e =
       let q = prefixed_ok _ out ps (sym all ∙ e) in

@@ -22,13 +22,13 @@ use Rattle.fitting.proofs.Meeting.{Met}
 use Rattle.fitting.proofs.Least.{leftmost, shallow}
 
 prefixed_err : (p : Placement) (out : Result (List Placement) Fault) (f : Fault) → prefixed (p ∷ []) out ≡ Err f → out ≡ Err f
-prefixed_err p (Ok qs) f e = let z : ◌≡◌ {A = ℕ} 0 1 = cc in absurd (omega arith)
+prefixed_err p (Ok qs) f e = cc
 prefixed_err p (Err g) f e = e
 
 -- laying out refuses nothing but what is too deep
 pub lays-deep : (G : Model) (P : Question → Answer) {line : Line} {ss : List Slot} {rs ls : List ℕ} {out : Result (List Placement) Fault}
     → Lays G P line ss rs ls out → (f : Fault) → out ≡ Err f → (r : ℕ) × (k : ℕ) × (f ≡ TooDeep r k)
-lays-deep G P end f e = let z : ◌≡◌ {A = ℕ} 0 1 = cc in absurd (omega arith)
+lays-deep G P end f e = cc
 lays-deep G P (deep {s = s} high) f e = (s.rule, s.index, cc)
 lays-deep G P (piece {out = out} is low symbol rest all) f e = lays-deep G P rest f (prefixed_err _ out f (sym all ∙ e))
 lays-deep G P (node is low symbol known rest) f e = lays-deep G P rest f e
@@ -45,7 +45,7 @@ slots-left r c d k (x ∷ xs) ss vs le rest = ((refl, le), slots-left r c d (k +
 module _ (G : Model) (ds : List ℕ) where
   pub never_deep : {line : Line} {ss vs : List Slot} {rs ls : List ℕ} {out : Result (List Placement) Fault} {i : ℕ}
       → Lays G minimal line ss rs ls out → Met G ds vs rs i → AllZip Left ss vs → (f : Fault) → out ≡ Err f → ⊥
-  never_deep end met left f e = let z : ◌≡◌ {A = ℕ} 0 1 = cc in omega arith
+  never_deep end met left f e = cc
   never_deep (deep high) Met.end left f e = left
   never_deep {line = line} (deep {s = s} high) (Met.piece {s = v} {d = d} symbol at low meets rest) ((same, le), left) f e =
       let m = subst (λ (x : Item). Meets x.relation v.column d) (sym same) meets in

@@ -1,5 +1,5 @@
 -- What laying out gives meets the relations of the items to come.
-use Rattle.std.proofs.Common.{◌≡◌, ℕ, zero, suc, ◌+◌, ◌≤◌, List, [], ◌∷◌, drop, Some, Ok, Err, Result, sym, refl, ap, ◌∙◌, subst, arith}
+use Rattle.std.proofs.Common.{◌≡◌, ℕ, zero, suc, ◌+◌, ◌≤◌, List, [], ◌∷◌, drop, Some, Ok, Result, sym, refl, ap, ◌∙◌, subst, arith}
 use Rattle.std.specs.List.{slice_get, AllByRecursion}
 use Rattle.std.proofs.ByRecursion.{All-append}
 use Rattle.columns.specs.declared.relation.Relation.{Relation}
@@ -15,22 +15,18 @@ use Rattle.policy.specs.declared.question.Answer.{Answer}
 use Rattle.tree.specs.Slots.{Slot, slots}
 use Rattle.layout.specs.declared.line.Line.{Line}
 use Rattle.layout.specs.declared.placement.Placement.{Placement}
-use Rattle.layout.specs.Layouts.{Lays, prefixed}
+use Rattle.layout.specs.Layouts.{Lays}
 use Rattle.layout.specs.Layouts.Lays.{end, deep, piece, node}
+use Rattle.layout.proofs.Outcomes.{prefixed_ok}
 use Rattle.layout.specs.Questions.{answer_by, answer_of, question}
 use Rattle.fitting.specs.Fitting.{Obeys, Short, columns_of}
 use Rattle.fitting.proofs.Meeting.{Met}
 
 some-drop : (ks : List ℕ) (i a : ℕ) (us : List ℕ) → drop i ks ≡ a ∷ us → (slice_get ks i ≡ Some a) × (drop (suc i) ks ≡ us)
-some-drop [] zero a us e = let z : ◌≡◌ {A = ℕ} 0 1 = cc in absurd (omega arith)
-some-drop [] (suc i) a us e = let z : ◌≡◌ {A = ℕ} 0 1 = cc in absurd (omega arith)
+some-drop [] zero a us e = cc
+some-drop [] (suc i) a us e = cc
 some-drop (k ∷ ks) zero a us e = let q : k ≡ a = cc in let r : ks ≡ us = cc in (ap Some q, r)
 some-drop (k ∷ ks) (suc i) a us e = some-drop ks i a us e
-
-pub prefixed_ok : (p : Placement) (out : Result (List Placement) Fault) (ps : List Placement) → prefixed (p ∷ []) out ≡ Ok ps
-    → (qs : List Placement) × (out ≡ Ok qs) × (ps ≡ p ∷ qs)
-prefixed_ok p (Ok qs) ps e = (qs, refl, cc)
-prefixed_ok p (Err f) ps e = let z : ◌≡◌ {A = ℕ} 0 1 = cc in absurd (omega arith)
 
 -- the node of an item stands in a column from 0 to 63
 abbrev pub Low : Slot → Type 0
@@ -57,7 +53,7 @@ module _ (G : Model) (P : Question → Answer) (obeys : Obeys P) where
       → Lays G P line ss rs ls out → (i : ℕ) (ps : List Placement) → out ≡ Ok ps → drop i ds ≡ columns_of ps → line.cursor ≤ 96
       → Short ls → AllByRecursion Low ss → Met G ds ss rs i
   lays_met ds end i ps e at near short low = Met.end
-  lays_met ds (deep high) i ps e at near short low = let z : ◌≡◌ {A = ℕ} 0 1 = cc in absurd (omega arith)
+  lays_met ds (deep high) i ps e at near short low = cc
   lays_met ds {line = line} (piece {s = s} {l = l} {a = a} {out = out} is shallow symbol rest all) i ps e at near (h, short) (c, low) =
       let q = prefixed_ok _ out ps (sym all ∙ e) in
       let n = some-drop ds i a.column (columns_of q.0) (at ∙ ap columns_of q.2) in

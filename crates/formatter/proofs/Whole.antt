@@ -1,5 +1,5 @@
 -- The whole way from text to text.
-use Rattle.std.proofs.Common.{◌≡◌, ℕ, ◌+◌, ◌≤◌, List, length, Ok, Err, Result, inr, arith, MatchResult}
+use Rattle.std.proofs.Common.{◌≡◌, ℕ, ◌+◌, ◌≤◌, List, length, Ok, Err, Result, inr, MatchResult}
 use Rattle.faults.specs.declared.fault.Fault.{Fault}
 use Rattle.galley.specs.declared.galley.Galley.{Galley}
 use Rattle.formatter.specs.Reindents.{Roomy, ReadIn, Writes, Reindents}
@@ -10,8 +10,3 @@ module _ (text old : List ℕ) (x y z : Galley) (new : List ℕ) (roomy : Roomy 
       new
   reindents (Ok n) writes fits = record { x = x; y = y; z = z; roomy = roomy; reads = reads; writes = writes }
   reindents (Err f) writes kept = (kept, inr (record { x = x; y = y; z = z; roomy = roomy; reads = reads; writes = writes }))
-
-pub fits : (old new : List ℕ) (r : Result ℕ Fault) → MatchResult r (λ n. 0 + n ≤ length old) (λ _. new ≡ old)
-    → MatchResult r (λ n. n ≤ length old) (λ _. new ≡ old)
-fits old new (Ok n) h = omega arith
-fits old new (Err f) h = h

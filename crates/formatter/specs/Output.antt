@@ -1,8 +1,11 @@
 -- What the program prints.
---   Prints   the re-indented text, or the line of the fault that refuses it
-use Rattle.std.specs.Prelude.{◌≡◌, ℕ, true, false, List, take, replicate, Ok, Err, vec_items}
+--   Prints   the re-indented text, or the line of the fault that refuses it; nothing is said where there is no memory for either
+use Rattle.std.specs.Prelude.{◌≡◌, ℕ, ⊤, List, take, replicate, Ok, Err, Result, Vec}
+use Rattle.std.specs.declared.alloc.Global.{Global}
+use Rattle.std.specs.String.{string_bytes}
 use Rattle.faults.specs.declared.fault.Fault.{Fault}
-use Rattle.formatter.specs.declared.output.Output.{Output}
+use Rattle.formatter.specs.declared.refusal.Refusal.{Refusal}
+use Rattle.formatter.specs.declared.refusal.Refusal.TheVariants.{Fault as Told, Memory}
 use Rattle.faults.specs.Line.{fault_line}
 use Rattle.formatter.specs.Reindents.{Reindents}
 
@@ -10,7 +13,7 @@ use Rattle.formatter.specs.Reindents.{Reindents}
 abbrev pub blank : List ℕ
 blank = replicate 12288 0
 
-pub record Prints (text : List ℕ) (o : Output) : Type 0 where
-  pub script : o.accepted ≡ true
-      → (n : ℕ) × (new : List ℕ) × Reindents text blank (Ok n) new × (vec_items o.bytes ≡ take n new)
-  pub fault : o.accepted ≡ false → (f : Fault) × (new : List ℕ) × Reindents text blank (Err f) new × (vec_items o.bytes ≡ fault_line f)
+abbrev pub Prints : List ℕ → Result (Vec ℕ Global) Refusal → Type 0
+Prints text (Ok script) = (n : ℕ) × (new : List ℕ) × Reindents text blank (Ok n) new × (script.items ≡ take n new)
+Prints text (Err (Told line)) = (f : Fault) × (new : List ℕ) × Reindents text blank (Err f) new × (string_bytes line ≡ fault_line f)
+Prints text (Err (Memory e)) = ⊤

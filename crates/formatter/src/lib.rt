@@ -3,4 +3,5 @@
 #![tactic(auto)]
 
 pub mod output;
+pub mod refusal;
 pub mod reindent;

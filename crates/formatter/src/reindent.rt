@@ -4,9 +4,8 @@ ghost use Rattle.formatter.specs.Reindents.{Reindents};
 use faults::fault::Fault;
 use galley::galley::Galley;
 use grammar::block::Block;
-use grammar::rule::Child;
 use policy::step::Step;
-use tree::node::{Node, Shape};
+use tree::node::Node;
 use tree::piece::PieceRecord;
 
 // How far a level is indented.
@@ -28,17 +27,8 @@ pub fn reindent(text: &[u8], out: &mut [u8]) -> Result<usize, Fault>
 {
     let mut chart = [0; CHART];
     let mut bytes = [0; BYTES];
-    let mut pieces = [PieceRecord {
-        length: 0,
-        terminal: 0,
-        column: 0,
-        opens_line: false,
-    }; PIECES];
-    let mut nodes = [Node {
-        rule: 0,
-        left: 0,
-        shape: Shape::One(Child::Piece),
-    }; NODES];
+    let mut pieces = [PieceRecord::default(); PIECES];
+    let mut nodes = [Node::default(); NODES];
     let mut galley = Galley::new(1, &mut bytes, &mut pieces, &mut nodes);
     galley.read(&Block, Block::SCRIPT, text, &mut chart)?;
     let policy = Step::new(WIDTH)?;

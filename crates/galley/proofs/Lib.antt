@@ -1,3 +1,4 @@
+pub mod Left
 pub mod Loading
 pub mod Taking
 pub mod Writing

@@ -1,13 +1,14 @@
 -- Taking over the tokens of a text, one by one.
-use Rattle.std.proofs.Common.{◌≡◌, ℕ, ◌+◌, ◌-◌, ◌<◌, ◌≤◌, List, [], ◌++◌, length, get_or, take, drop, sym, ap, ◌∙◌, arith}
+use Rattle.std.proofs.Common.{◌≡◌, ℕ, ◌+◌, ◌<◌, ◌≤◌, List, [], ◌++◌, length, get_or, take, drop, sym, ap, ◌∙◌, arith}
 use borrow.Rule.Slice.PartMut.{put_mid}
 use Rattle.std.specs.List.{flat_map}
-use Rattle.std.proofs.lemmas.List.{take_more, take_all, flat_map_more, length-take-le, length-drop}
+use Rattle.std.proofs.lemmas.List.{take_more, flat_map_more, length-take-le, length-drop}
 use Rattle.std.proofs.lemmas.Slice.{take-put_mid}
 use Rattle.std.proofs.lemmas.List.Sums.{sum_by_more, sum_by-take-le}
 use Rattle.std.proofs.ByRecursion.{All-get_or}
 use Rattle.text.specs.declared.token.Token.{Token}
-use Rattle.galley.specs.Loads.{bytes_at, bytes_of, byte_count, InText, Inside}
+use Rattle.text.specs.Inside.{bytes_at, InText, Inside}
+use Rattle.galley.specs.Loads.{bytes_of, byte_count}
 
 abbrev pub blank : Token
 blank = record { start = 0; length = 0; line = 0; column = 0; terminal = 0 }
@@ -28,23 +29,20 @@ module _ (ts : List Token) (i : ℕ) (h : i < length ts) where
       ap (λ (us : List Token). flat_map (bytes_at text) us) (take_more ts i blank h)
       ∙ sym (flat_map_more (bytes_at text) [] (take i ts) (get_or ts i blank))
 
-  -- the next token's bytes behind those so far
-  pub loaded_more : (text memory new : List ℕ) (end k : ℕ) → Inside text ts → end ≤ length memory
-      → take end memory ≡ bytes_of text (take i ts)
-      → new ≡ take ((get_or ts i blank).start + (get_or ts i blank).length - (get_or ts i blank).start)
-      (drop (get_or ts i blank).start text)
-      → take (end + (get_or ts i blank).length) (put_mid end k memory new) ≡ bytes_of text (take (i + 1) ts)
-  loaded_more text memory new end k all fits before is =
-      let t = get_or ts i blank in
-      let in' = token-inside text all in
-      let n : t.start + t.length - t.start ≡ t.length = omega arith in
-      let same : new ≡ bytes_at text t = is ∙ ap (λ (m : ℕ). take m (drop t.start text)) n in
-      let d = length-drop t.start text in
-      let l : length (bytes_at text t) ≡ t.length = length-take-le t.length (drop t.start text) (omega (arith, in'.1)) in
-      let long : length new ≡ t.length = ap (λ (xs : List ℕ). length xs) same ∙ l in
-      let p = take-put_mid end k memory new (end + t.length) (omega arith) fits in
-      let b = bytes_more text in
-      cc
+  module _ (text xs : List ℕ) (all : Inside text ts) (is : xs ≡ bytes_at text (get_or ts i blank)) where
+    pub bytes_long : length xs ≡ (get_or ts i blank).length
+    bytes_long =
+        let t = get_or ts i blank in
+        let in' = token-inside text all in
+        let d = length-drop t.start text in
+        let l : length (bytes_at text t) ≡ t.length = length-take-le t.length (drop t.start text) (omega (arith, in'.1)) in
+        ap (λ (ys : List ℕ). length ys) is ∙ l
 
-pub all-tokens : {Y : Type 0} (F : List Token → Y) (ts : List Token) (i : ℕ) → length ts ≤ i → F (take i ts) ≡ F ts
-all-tokens F ts i h = ap F (take_all i ts h)
+    -- the next token's bytes, xs, behind those so far
+    pub loaded_more : (memory new : List ℕ) (end k : ℕ) → end ≤ length memory → take end memory ≡ bytes_of text (take i ts) → new ≡ xs
+        → take (end + length xs) (put_mid end k memory new) ≡ bytes_of text (take (i + 1) ts)
+    loaded_more memory new end k fits before same =
+        let long : length new ≡ length xs = ap (λ (ys : List ℕ). length ys) same in
+        let p = take-put_mid end k memory new (end + length xs) (omega arith) fits in
+        let b = bytes_more text in
+        cc

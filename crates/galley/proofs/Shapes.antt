@@ -1,5 +1,6 @@
 -- Node records that a grammar tells of a tree have the shapes of that tree.
-use Rattle.std.proofs.Common.{◌≡◌, ℕ, suc, ◌+◌, true, false, List, [], ◌∷◌, ◌++◌, map, length, Some, Option, sym, refl, ap, ◌∙◌, subst, arith}
+use Rattle.std.proofs.Common.{◌≡◌, ℕ, suc, ◌+◌, true, false, List, [], ◌∷◌, ◌++◌, map, length, Some, Option, sym, refl, ap, ◌∙◌, subst}
+use Rattle.std.proofs.Common.{arith}
 use Rattle.std.specs.List.{slice_get, AllByRecursion}
 use Rattle.std.proofs.lemmas.List.{append-nil, length-map, map-append}
 use Rattle.grammar.specs.declared.rule.Child.{Child}
@@ -18,7 +19,8 @@ use Rattle.tree.specs.Forest as numbers
 use Rattle.columns.specs.declared.relation.Relation.TheVariants.{Any}
 use Rattle.chart.specs.Trees.{width, preorder}
 use Rattle.chart.specs.Readings.{terminals}
-use Rattle.chart.specs.Nodes.{Tells, shape_of}
+use Rattle.grammar.specs.Model.{shape_of}
+use Rattle.chart.specs.Nodes.{Tells}
 use Rattle.chart.proofs.Numbers.{all-numbers}
 use Rattle.chart.proofs.Once.{all_read}
 use Rattle.shape.specs.Children.{children, kids, under, pieces_in, closes, one_tree}
@@ -42,11 +44,11 @@ module _ (G : Model) where
   pub forest_shaped : {xs : List Item} {rs ts : List ℕ} → Forest G xs rs ts → (ns : List Node) → map (λ (n : Node). n.rule) ns ≡ rs
       → AllByRecursion (Tells G) ns → Shaped (covered xs) ns (length ts)
   forest_shaped Forest.none [] e told = Shaped.none
-  forest_shaped Forest.none (n ∷ ns) e told = let z : ◌≡◌ {A = ℕ} 0 1 = cc in absurd (omega arith)
+  forest_shaped Forest.none (n ∷ ns) e told = absurd (cc)
   forest_shaped (Forest.piece {x = x} {xs = xs} {ts = ts} s f) ns e told =
       let c : Piece ≡ child_of x.symbol = sym (ap child_of s) in
       subst (λ (k : Child). Shaped (k ∷ covered xs) ns (suc (length ts))) c (Shaped.piece (forest_shaped f ns e told))
-  forest_shaped (Forest.node known s f) [] e told = let z : ◌≡◌ {A = ℕ} 0 1 = cc in absurd (omega arith)
+  forest_shaped (Forest.node known s f) [] e told = absurd (cc)
   forest_shaped (Forest.node {x = x} {xs = xs} {ts = ts} {r = r} {rule = rule} known s f) (n ∷ ns) e (t, told) =
       let number : n.rule ≡ r = cc in
       let rest : map (λ (m : Node). m.rule) ns ≡ _ = cc in

@@ -2,7 +2,8 @@
 use Rattle.std.proofs.Common.{◌≡◌, ℕ, ◌+◌, ◌-◌, ◌≤◌, List, ◌++◌, length, take, drop, sym, refl, ap, ◌∙◌, arith, take-add}
 use lib.Seq.{paste}
 use borrow.Rule.Slice.PartMut.{put_mid}
-use Rattle.std.proofs.lemmas.List.{append_assoc, drop_at, drop-take, length-drop, length-take, length-take-le, take-append-le, take_at, take-take}
+use Rattle.std.proofs.lemmas.List.{append_assoc, drop_at, drop-take, length-drop, length-take, length-take-le, take-append-le, take_at}
+use Rattle.std.proofs.lemmas.List.{take-take}
 use Rattle.std.proofs.lemmas.Slice.{take-put_mid, drop-put_mid}
 use Rattle.std.proofs.lemmas.List.Edits.{length-paste}
 use Rattle.galley.specs.Parts.{spliced}

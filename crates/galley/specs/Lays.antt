@@ -1,34 +1,24 @@
 -- What lay answers.
---   stand      a piece's record with its place
---   standing   pieces with their places, as far as there are places
 --   no_lay     why a galley is not laid out at all: it is laid already, or empty
 --   LaidOut    the verdict of the layout on what a galley holds
 --   Lays       that refusal or the layout's with the galley as it was; or the pieces stand in their places, and the slip
 --              and the galley tell the length of their text
-use Rattle.std.specs.Prelude.{◌≡◌, cond, List, [], ◌∷◌, length, is_some, Some, None, Ok, Err, Option, Result, ◌==◌}
+use Rattle.std.specs.Prelude.{◌≡◌, cond, List, length, is_some, Some, None, Ok, Err, Option, Result, ◌==◌}
 use Rattle.faults.specs.declared.fault.Fault.{Fault}
 use Rattle.faults.specs.declared.fault.Fault.TheVariants.{AlreadyLaid, NoNode}
 use Rattle.grammar.specs.Model.{Model}
 use Rattle.policy.specs.declared.question.Question.{Question}
 use Rattle.policy.specs.declared.question.Answer.{Answer}
-use Rattle.tree.specs.declared.piece.PieceRecord.{PieceRecord}
 use Rattle.tree.specs.Walks.{rules_of}
 use Rattle.layout.specs.declared.placement.Placement.{Placement}
 use Rattle.layout.specs.declared.placement.Layout.{Layout}
 use Rattle.layout.specs.Layouts.{Laid, listed}
+use Rattle.layout.specs.Standing.{standing}
 use Rattle.galley.specs.declared.galley.Galley.{Galley}
 use Rattle.galley.specs.declared.slip.Slip.{Slip}
 use Rattle.galley.specs.Stores.{front, room}
 use Rattle.galley.specs.Views.{Unchanged}
 use Rattle.galley.specs.Writes.{text_of}
-
-abbrev pub stand : PieceRecord → Placement → PieceRecord
-stand p q = record { length = p.length; terminal = p.terminal; column = q.column; opens_line = q.opens_line }
-
-abbrev pub standing : List PieceRecord → List Placement → List PieceRecord
-standing [] qs = []
-standing (p ∷ ps) [] = p ∷ ps
-standing (p ∷ ps) (q ∷ qs) = stand p q ∷ standing ps qs
 
 abbrev pub no_lay : Galley → Option Fault
 no_lay x = cond (is_some x.laid) (Some AlreadyLaid) (cond (x.held.nodes.used == 0) (Some NoNode) None)

@@ -1,16 +1,12 @@
 -- The pieces of a text as a galley holds them.
---   bytes_at    the bytes of a token in its text
 --   bytes_of    the bytes of all tokens, without gaps
 --   byte_count  how many these are
 --   record_of   the record of a token's piece
---   Inside      every token lies within its text
-use Rattle.std.specs.Prelude.{ℕ, ◌+◌, ◌≤◌, false, List, map, length, take, drop, sum_by}
-use Rattle.std.specs.List.{flat_map, AllByRecursion}
+use Rattle.std.specs.Prelude.{ℕ, false, List, map, sum_by}
+use Rattle.std.specs.List.{flat_map}
+use Rattle.text.specs.Inside.{bytes_at}
 use Rattle.text.specs.declared.token.Token.{Token}
 use Rattle.tree.specs.declared.piece.PieceRecord.{PieceRecord}
-
-abbrev pub bytes_at : List ℕ → Token → List ℕ
-bytes_at text t = take t.length (drop t.start text)
 
 abbrev pub bytes_of : List ℕ → List Token → List ℕ
 bytes_of text ts = flat_map (bytes_at text) ts
@@ -23,10 +19,3 @@ record_of t = record { length = t.length; terminal = t.terminal; column = 0; ope
 
 abbrev pub records_of : List Token → List PieceRecord
 records_of ts = map record_of ts
-
--- short enough, and within the text
-abbrev pub InText : List ℕ → Token → Type 0
-InText text t = (t.length ≤ 32) × (t.start + t.length ≤ length text)
-
-abbrev pub Inside : List ℕ → List Token → Type 0
-Inside text ts = AllByRecursion (InText text) ts

@@ -19,10 +19,10 @@ use Rattle.chart.specs.Readings.{Reading}
 use Rattle.chart.specs.First.{FirstReading, Reach}
 use Rattle.chart.specs.Nodes as nodes
 use Rattle.tree.specs.declared.node.Node.{Node}
-use Rattle.galley.specs.declared.held.Store.{Store}
+use Rattle.galley.specs.declared.store.Store.{Store}
 use Rattle.galley.specs.declared.held.Held.{Held}
 use Rattle.galley.specs.declared.galley.Galley.{Galley}
-use Rattle.galley.specs.Stores.{front, room, Fits}
+use Rattle.galley.specs.Stores.{front, room}
 use Rattle.galley.specs.Views.{Unchanged}
 use Rattle.galley.specs.Loads.{bytes_of, byte_count, records_of}
 
@@ -44,7 +44,7 @@ FirstHeld G A ts ns = (t : Tree) × FirstReading G ts A t × nodes.Holds G ns t
 -- the nodes of the first reading, in a memory of the same size, or a refusal with the memory as it was
 abbrev pub Read : Option Fault → Model → ℕ → List Token → Store Node → Result Unit Fault → Store Node → Type 0
 Read (Some f) G A ts s r t = (r ≡ Err f) × (t ≡ s)
-Read None G A ts s (Ok u) t = Fits t × (room t ≡ room s) × FirstHeld G A ts (front t)
+Read None G A ts s (Ok u) t = (room t ≡ room s) × FirstHeld G A ts (front t)
 Read None G A ts s (Err f) t = NoReadingOf G A ts f × (t ≡ s)
 
 -- the first reading of the text with its pieces, in memories of the same size

@@ -1,5 +1,5 @@
 -- A galley before and after a call.
---   Unchanged   its number, all that its memories hold, and whether it is laid, are as they were
+--   Unchanged   it is the same: its number, all that its memories hold, and whether it is laid
 --   Empty       a new galley with that number over these memories
 use Rattle.std.specs.Prelude.{◌≡◌, ℕ, List, None}
 use Rattle.std.specs.Borrow.{MutBor}
@@ -7,10 +7,8 @@ use Rattle.tree.specs.declared.node.Node.{Node}
 use Rattle.tree.specs.declared.piece.PieceRecord.{PieceRecord}
 use Rattle.galley.specs.declared.galley.Galley.{Galley}
 
-pub record Unchanged (x y : Galley) : Type 0 where
-  pub number : y.number ≡ x.number
-  pub held : y.held ≡ x.held
-  pub laid : y.laid ≡ x.laid
+abbrev pub Unchanged : Galley → Galley → Type 0
+Unchanged x y = y ≡ x
 
 -- nothing is held, in these memories
 pub record Empty (number : ℕ) (bytes : MutBor (List ℕ)) (pieces : MutBor (List PieceRecord)) (nodes : MutBor (List Node))

@@ -1,11 +1,12 @@
 ghost use Rattle.std.specs.Prelude.{◌≡◌};
-ghost use Rattle.tree.specs.Pieces.{total, longest};
-ghost use Rattle.galley.specs.Lays.{standing, LaysBy};
-ghost use Rattle.galley.specs.Stores.{front, room, Fits};
+ghost use Rattle.layout.specs.Standing.{standing};
+ghost use Rattle.galley.specs.Lays.{LaysBy};
+ghost use Rattle.galley.specs.Stores.{front, room};
 
 use crate::galley::Galley;
-use crate::held::Store;
+use crate::held::Held;
 use crate::slip::Slip;
+use crate::store::Store;
 use faults::fault::Fault;
 use grammar::grammar::Grammar;
 use layout::lay_out::lay_out;
@@ -18,34 +19,34 @@ use tree::piece::PieceRecord;
 fn place_all(pieces: &mut [PieceRecord], places: &[Placement])
     ensures { pieces.new ≡ standing pieces.old places.now }
 {
-    for i in 0..pieces.len().min(places.len()) {
-        let PieceRecord {
-            length,
-            terminal,
-            ..
-        } = pieces[i];
-        let Placement { column, opens_line } = places[i];
-        pieces[i] = PieceRecord {
-            length,
-            terminal,
-            column,
-            opens_line,
-        };
+    let mut places = places.iter();
+    for piece in pieces.iter_mut() {
+        let Some(place) = places.next() else { break };
+        piece.column = place.column;
+        piece.opens_line = place.opens_line;
     }
 }
 
 impl Store<'_, PieceRecord> {
     // Notes where the held pieces stand.
-    fn place_pieces(&mut self, places: &[Placement])
-        requires { Fits self.old }
+    fn place(&mut self, places: &[Placement])
         ensures used { self.new.used ≡ self.old.used }
         ensures room { room self.new ≡ room self.old }
         ensures front { front self.new ≡ standing (front self.old) places.now }
-        ensures total { total (front self.new) ≡ total (front self.old) }
-        ensures longest { longest (front self.new) ≡ longest (front self.old) }
     {
-        let used = self.used;
-        place_all(&mut self.memory[0..used], places);
+        place_all(&mut self.memory[..self.used], places);
+    }
+}
+
+impl Held<'_> {
+    // Notes where the held pieces stand.
+    fn place_pieces(&mut self, places: &[Placement])
+        ensures bytes { self.new.bytes ≡ self.old.bytes }
+        ensures nodes { self.new.nodes ≡ self.old.nodes }
+        ensures pieces { front self.new.pieces ≡ standing (front self.old.pieces) places.now }
+        ensures room { room self.new.pieces ≡ room self.old.pieces }
+    {
+        self.pieces.place(places);
     }
 }
 
@@ -61,7 +62,7 @@ impl Galley<'_> {
             return Err(Fault::NoNode);
         }
         let layout = lay_out(g, policy, self.held.contents())?;
-        self.held.pieces.place_pieces(layout.as_slice());
+        self.held.place_pieces(layout.as_slice());
         let length = text_length(&self.held.contents());
         self.laid = Some(length);
         Ok(Slip {

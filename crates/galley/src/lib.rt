@@ -2,7 +2,6 @@
 
 #![tactic(auto)]
 
-pub mod contents;
 pub mod galley;
 pub mod held;
 pub mod lay;
@@ -13,8 +12,11 @@ pub mod print;
 pub mod read;
 pub mod release;
 pub mod slip;
+mod source;
 mod span;
+mod spend;
 mod splice;
+pub mod store;
 mod sum;
 pub mod tell;
 pub mod write;

@@ -1,8 +1,8 @@
-ghost use Rattle.std.specs.Prelude.{◌≡◌};
 ghost use Rattle.galley.specs.Views.{Empty};
 
 use crate::galley::Galley;
-use crate::held::{Held, Store};
+use crate::held::Held;
+use crate::store::Store;
 use tree::node::Node;
 use tree::piece::PieceRecord;
 
@@ -16,22 +16,10 @@ impl<'a> Galley<'a> {
     ) -> Galley<'a>
         ensures { Empty number bytes.entry pieces.entry nodes.entry result }
     {
-        let bytes = Store {
-            memory: bytes,
-            used: 0,
-        };
-        let pieces = Store {
-            memory: pieces,
-            used: 0,
-        };
-        let nodes = Store {
-            memory: nodes,
-            used: 0,
-        };
         let held = Held {
-            bytes,
-            pieces,
-            nodes,
+            bytes: Store::new(bytes),
+            pieces: Store::new(pieces),
+            nodes: Store::new(nodes),
         };
         Galley {
             number,

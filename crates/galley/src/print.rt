@@ -1,26 +1,13 @@
-ghost use Rattle.std.specs.Prelude.{◌≡◌, ◌+◌, ◌≤◌, length, None, MatchResult};
+ghost use Rattle.std.specs.Prelude.{◌≡◌, ◌+◌, ◌≤◌, length, MatchResult};
 ghost use Rattle.galley.specs.Prints.{Prints};
-ghost use Rattle.galley.specs.Writes.{spend_fault, Unlaid};
 
 use crate::galley::Galley;
-use crate::slip::{Declined, Slip};
+use crate::slip::Declined;
 use faults::fault::Fault;
 use grammar::grammar::Grammar;
 use policy::policy::Policy;
 
 impl Galley<'_> {
-    // Spends a slip of this galley, which is laid.
-    fn let_go(&mut self, slip: Slip)
-        requires { spend_fault slip self.old ≡ None }
-        ensures { Unlaid self.old self.new }
-    {
-        let Slip {
-            number: _,
-            length: _,
-        } = slip;
-        self.laid = None;
-    }
-
     // Lays the tree out and writes its text into the buffer from `start` on; a text that does not fit is let go again.
     pub fn lay_and_write<G: Grammar, P: Policy>(
         &mut self,
@@ -34,6 +21,7 @@ impl Galley<'_> {
         ensures fits { MatchResult result (λ n. start + n ≤ length buffer.old) (λ _. buffer.new ≡ buffer.old) }
     {
         let slip = self.lay(g, policy)?;
+        // No `map_err`: what lets the slip go changes the galley, and a closure that does so needs clauses of its own.
         match self.write(slip, buffer, start) {
             Ok(length) => Ok(length),
             Err(Declined { fault, slip }) => {

@@ -1,12 +1,12 @@
 ghost use Rattle.std.specs.Prelude.{◌≡◌, ◌≤◌, length, replicate};
 ghost use Rattle.text.specs.Tokens.{listed};
-ghost use Rattle.galley.specs.Loads.{Inside};
-ghost use Rattle.galley.specs.Stores.{Sound, OneTree};
 ghost use Rattle.galley.specs.Reads.{Reads, TakesOver, ReadsIn};
 
 use crate::galley::Galley;
-use crate::held::{Held, Store};
+use crate::held::Held;
 use crate::load::count_bytes;
+use crate::source::Source;
+use crate::store::Store;
 use chart::memory::ChartMemory;
 use chart::read::first_reading;
 use faults::fault::{Fault, Memory};
@@ -17,6 +17,7 @@ use tree::node::Node;
 
 impl Store<'_, Node> {
     // Holds just the nodes of the first reading of the tokens.
+    // A pair of grammar and symbol would be made and opened again at each of these calls.
     fn hold_reading<G: Grammar>(
         &mut self,
         g: &G,
@@ -37,26 +38,23 @@ impl Held<'_> {
         &mut self,
         g: &G,
         symbol: u8,
-        text: &[u8],
-        tokens: &Tokens,
+        source: &Source,
         cells: &mut [u64],
     ) -> Result<(), Fault>
-        requires own { Sound self.old }
-        requires inside { Inside text.now (listed tokens.now) }
-        ensures took { TakesOver (G.model g.now) symbol (length cells.old) text.now (listed tokens.now) self.old result self.new }
-        ensures sound { Sound self.new }
-        ensures tree { OneTree self.old → OneTree self.new }
+        ensures { TakesOver (G.model g.now) symbol (length cells.old) source.now.text.now (listed source.now.tokens.now)
+            self.old result self.new }
     {
-        let list = tokens.as_slice();
-        if self.bytes.memory.len() < count_bytes(list) {
+        // A test for each memory, since each has its own need and its own case of the fault.
+        let tokens = source.tokens;
+        if self.bytes.room() < count_bytes(tokens) {
             return Err(Fault::ShortMemory(Memory::Bytes));
         }
-        if self.pieces.memory.len() < list.len() {
+        if self.pieces.room() < tokens.as_slice().len() {
             return Err(Fault::ShortMemory(Memory::Pieces));
         }
         self.nodes.hold_reading(g, symbol, tokens, cells)?;
-        self.bytes.hold_bytes(text, list);
-        self.pieces.hold_pieces(list);
+        self.bytes.hold_bytes(source);
+        self.pieces.hold_pieces(tokens);
         Ok(())
     }
 }
@@ -82,6 +80,10 @@ impl Galley<'_> {
             return Err(Fault::GrammarMismatch);
         }
         let tokens = scan(g, text)?;
-        self.held.take_over(g, symbol, text, &tokens, memory.cells)
+        let source = Source {
+            text,
+            tokens: &tokens,
+        };
+        self.held.take_over(g, symbol, &source, memory.cells)
     }
 }

@@ -1,3 +1,5 @@
+ghost use Rattle.std.specs.Prelude.{◌≡◌};
+
 use faults::fault::Fault;
 
 // The right to the text of a laid galley: the galley's number and the text's length.
@@ -11,4 +13,13 @@ pub struct Slip {
 pub struct Declined {
     pub fault: Fault,
     pub slip: Slip,
+}
+
+impl Slip {
+    // The refusal of this slip for that fault.
+    pub(crate) fn declined(self, fault: Fault) -> Declined
+        ensures { result ≡ record { fault = fault; slip = self } }
+    {
+        Declined { fault, slip: self }
+    }
 }

@@ -1,4 +1,5 @@
 // Neighbouring elements of a memory: the number of the first, and how many they are.
+// Copied, as a Range is not.
 #[derive(Clone, Copy)]
 pub(crate) struct Span {
     pub(crate) at: usize,

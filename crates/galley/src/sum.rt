@@ -8,9 +8,5 @@ pub(crate) fn sum_lengths(pieces: &[PieceRecord]) -> usize
     requires { length pieces.now ≤ 128 }
     ensures { result ≡ total pieces.now }
 {
-    let mut sum = 0;
-    for piece in pieces {
-        sum += piece.length as usize;
-    }
-    sum
+    pieces.iter().map(|piece| piece.length as usize).sum()
 }

@@ -15,7 +15,7 @@ impl Galley<'_> {
         ensures told { Tells (front self.now.held.nodes) number result }
         ensures once { ToldOnce }
     {
-        let nodes = &self.held.nodes.memory[0..self.held.nodes.used];
+        let nodes = self.held.nodes.front();
         Preorder { nodes }.node(number)
     }
 
@@ -23,13 +23,10 @@ impl Galley<'_> {
     pub fn piece(&self, number: usize) -> Option<PieceFacts>
         ensures { result ≡ piece_told (front self.now.held.pieces) number }
     {
-        let pieces = &self.held.pieces.memory[0..self.held.pieces.used];
-        if number >= pieces.len() {
-            return None;
-        }
-        let piece = pieces[number];
+        let pieces = self.held.pieces.front();
+        let piece = pieces.get(number)?;
         Some(PieceFacts {
-            place: sum_lengths(&pieces[0..number]),
+            place: sum_lengths(&pieces[..number]),
             length: piece.length,
             terminal: piece.terminal,
         })

@@ -4,6 +4,7 @@
 --   Items         the items of a rule, one to three
 --   Shape         what the items of a node cover, in order
 --   child_of      what an item covers in a tree: a terminal one piece, a nonterminal a node
+--   shape_of      what the items of a rule cover
 --   first_with    the number of the first terminal that passes a test
 --   spelled       a test of a terminal: it is the word with these bytes
 --   classed       a test of a terminal: it is that class
@@ -20,6 +21,7 @@ use Rattle.grammar.specs.declared.rule.Item.{Item}
 use Rattle.grammar.specs.declared.rule.Rule.{Rule}
 use Rattle.grammar.specs.declared.rule.Child.{Child}
 use Rattle.grammar.specs.declared.several.Several.{Several}
+use Rattle.grammar.specs.Several.{mapped}
 use Rattle.grammar.specs.declared.rule.Child.TheVariants.{Piece, Node}
 
 pub data Terminal : Type 0 where
@@ -40,6 +42,9 @@ Shape = Several Child
 abbrev pub child_of : Symbol → Child
 child_of (symbol.Terminal t) = Piece
 child_of (symbol.Nonterminal a) = Node
+
+abbrev pub shape_of : Items → Shape
+shape_of = mapped (λ x. child_of x.symbol)
 
 -- one number further on
 abbrev pub later : Option ℕ → Option ℕ

@@ -36,6 +36,7 @@ pub(crate) const ELSE_WORD: u8 = 5;
 pub(crate) const COLON: u8 = 6;
 
 // The items of its rules, named by symbol and relation.
+// Each written out: a constant cannot call a function.
 const BLOCK_EQUAL: Item = Item {
     symbol: Symbol::Nonterminal(BLOCK),
     relation: Relation::Equal,

@@ -1,8 +1,9 @@
 ghost use Rattle.std.specs.Prelude.{◌≡◌, length};
-ghost use Rattle.std.specs.List.{slice_get, AllZip};
+ghost use Rattle.std.specs.List.{slice_get};
 ghost use Rattle.grammar.specs.Several.{listed};
 
 // One, two or three of a kind, in order.
+// No ArrayVec: rules stand in a static table and are copied.
 #[derive(Clone, Copy)]
 pub enum Several<T> {
     One(T),
@@ -35,16 +36,17 @@ impl<T: Copy> Several<T> {
             _ => None,
         }
     }
+}
 
-    // What a function gives for each of them, in the same order.
-    pub fn map<U, F: Fn(T) -> U>(self, f: F) -> Several<U>
-        requires { F.IsAlwaysCallable f }
-        ensures { AllZip (F.post f) (listed self) (listed result) }
-    {
-        match self {
-            Several::One(x) => Several::One(f(x)),
-            Several::Two(x, y) => Several::Two(f(x), f(y)),
-            Several::Three(x, y, z) => Several::Three(f(x), f(y), f(z)),
-        }
+// What stands in memory for none: one blank.
+// By hand: a derive's default case holds no value.
+impl<T: Default> Default for Several<T> {
+    ghost use Rattle.std.specs.Prelude.{◌≡◌};
+    ghost use Rattle.grammar.specs.declared.several.Several.TheVariants.{One};
+
+    ghost is_default = { λ several. (x : T) × T.is_default x × (several ≡ One x) };
+
+    fn default() -> Self {
+        Several::One(T::default())
     }
 }

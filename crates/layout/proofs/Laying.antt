@@ -1,34 +1,31 @@
 -- Laying a tree out, one item after another.
-use Rattle.std.proofs.Common.{◌≡◌, ℕ, ◌+◌, ◌<◌, ◌≤◌, List, [], ◌∷◌, ◌++◌, length, get_or, take, drop, Ok, Err, Option, Result, sym, refl, ap, ◌∙◌, subst, arith}
-use Rattle.std.proofs.lemmas.List.{append_assoc, append-nil, drop_all, drop_more, length-drop, length-map, length-set, take_more_set}
+use Rattle.std.proofs.Common.{◌≡◌, ℕ, ◌<◌, ◌≤◌, List, [], ◌∷◌, ◌++◌, length, get_or, drop, Ok, Err, Option, Result, sym, refl, ap, ◌∙◌}
+use Rattle.std.proofs.Common.{subst, arith}
+use Rattle.std.proofs.lemmas.List.{append_assoc, append-nil, drop_all, drop_more, length-drop, length-map, length-append}
 use Rattle.faults.specs.declared.fault.Fault.{Fault}
 use Rattle.faults.specs.declared.fault.Fault.TheVariants.{TooDeep}
 use Rattle.grammar.specs.declared.rule.Symbol.{Symbol}
 use Rattle.grammar.specs.declared.rule.Symbol.TheVariants.{Terminal, Nonterminal}
-use Rattle.grammar.specs.Model as model
 use Rattle.grammar.specs.Several as several
 use Rattle.grammar.specs.Model.{Model}
 use Rattle.policy.specs.declared.question.Question.{Question}
 use Rattle.policy.specs.declared.question.Answer.{Answer}
-use Rattle.tree.specs.declared.frame.Entered.{Entered}
+use Rattle.grammar.specs.declared.rule.Expansion.{Expansion}
 use Rattle.tree.specs.declared.piece.PieceRecord.{PieceRecord}
 use Rattle.tree.specs.declared.walk.Walk.{Walk}
 use Rattle.tree.specs.declared.walk.Step.{Step}
 use Rattle.tree.specs.Slots.{Slot, slots, entered_slots}
 use Rattle.tree.specs.Terminals.{listed}
-use Rattle.tree.specs.Walks.{Begun, Came, Ended, Takes, pending, rules_left, slot_of, terminals_left, waiting_slots}
+use Rattle.tree.specs.Walks.{Came, Ended, Takes, pending, rules_left, slot_of, terminals_left, waiting_slots}
+use Rattle.arrayvec.specs.ArrayVec.{ArrayVec}
 use Rattle.layout.specs.declared.line.Line.{Line}
 use Rattle.layout.specs.declared.placement.Placement.{Placement}
 use Rattle.layout.specs.declared.placer.Placer.{Placer}
-use Rattle.layout.specs.Layouts.{Lays, LaysOut, lengths, prefixed, start}
+use Rattle.layout.specs.Layouts.{Lays, LaysOut, lengths, prefixed}
 use Rattle.layout.specs.Layouts.Lays.{end, deep, piece, node}
 use Rattle.layout.specs.Lines.{asked, placed}
 use Rattle.layout.specs.Placers.{Puts, Within}
 use Rattle.layout.specs.Questions.{answer_of}
-
-prefixed-none : (out : Result (List Placement) Fault) → prefixed [] out ≡ out
-prefixed-none (Ok ps) = refl
-prefixed-none (Err f) = refl
 
 prefixed_more : (ps : List Placement) (p : Placement) (out : Result (List Placement) Fault)
     → prefixed ps (prefixed (p ∷ []) out) ≡ prefixed (ps ++ p ∷ []) out
@@ -40,20 +37,20 @@ module _ {X : Type 0} (G : Model) (P : Question → Answer) (rules ls : List ℕ
   abbrev pub SoFar : Walk X → ℕ → Placer → Type 0
   SoFar w column p = (out : Result (List Placement) Fault)
       → Lays G P p.line (pending w column) (rules_left w) (drop w.piece ls) out
-      → LaysOut G P rules ls (prefixed (take w.piece p.list) out)
+      → LaysOut G P rules ls (prefixed p.list.items out)
 
   module _ (w v : Walk X) (s : Step) (a : Answer) (before after : Placer) (is : a ≡ answer_of P before.line.cursor (slot_of s))
-      (shallow : a.column ≤ 63) (room : length ls ≤ length before.list) where
+      (shallow : a.column ≤ 63) where
     -- one item more, by what it covers
     by : (u : Symbol) → s.item.symbol ≡ u → Takes G u w v → Within u w.piece (length ls) → Puts u a ls w.piece before after
         → ((out : Result (List Placement) Fault)
         → Lays G P before.line (slot_of s ∷ waiting_slots v) (rules_left w) (drop w.piece ls) out
-        → LaysOut G P rules ls (prefixed (take w.piece before.list) out)) → SoFar v a.column after
+        → LaysOut G P rules ls (prefixed before.list.items out)) → SoFar v a.column after
     by (Terminal t) symbol (terminals, rules-same, entered, number) here (line, list) so_far out lays =
         let pl = placed (asked before.line a.breaks) a.column in
         let n : drop w.piece ls ≡ get_or ls w.piece 0 ∷ drop v.piece ls = drop_more ls w.piece 0 here
         ∙ ap (λ (k : ℕ). get_or ls w.piece 0 ∷ drop k ls) (sym number) in
-        let b = subst (λ (o : Option Entered). Lays G P after.line (entered_slots o a.column ++ waiting_slots v) (rules_left v)
+        let b = subst (λ (o : Option Expansion). Lays G P after.line (entered_slots o a.column ++ waiting_slots v) (rules_left v)
         (drop v.piece ls) out) entered lays in
         let d = subst (λ (rs : List ℕ). Lays G P after.line (waiting_slots v) rs (drop v.piece ls) out) rules-same b in
         let e = subst (λ (l : Line). Lays G P l (waiting_slots v) (rules_left w) (drop v.piece ls) out) line d in
@@ -61,13 +58,10 @@ module _ {X : Type 0} (G : Model) (P : Question → Answer) (rules ls : List ℕ
         (prefixed (pl ∷ []) out) = piece is shallow symbol e refl in
         let h = subst (λ (ks : List ℕ). Lays G P before.line (slot_of s ∷ waiting_slots v) (rules_left w) ks
         (prefixed (pl ∷ []) out)) (sym n) f in
-        let front : take v.piece after.list ≡ take w.piece before.list ++ pl ∷ []
-        = ap (λ (k : ℕ). take k after.list) number ∙ ap (take (w.piece + 1)) list
-        ∙ take_more_set before.list w.piece pl (omega arith) in
-        subst (LaysOut G P rules ls) (prefixed_more (take w.piece before.list) pl out
-        ∙ ap (λ (ps : List Placement). prefixed ps out) (sym front)) (so_far (prefixed (pl ∷ []) out) h)
+        subst (LaysOut G P rules ls) (prefixed_more before.list.items pl out
+        ∙ ap (λ (ps : List Placement). prefixed ps out) (sym list)) (so_far (prefixed (pl ∷ []) out) h)
     by (Nonterminal n) symbol (e, entered, known, rules-on, terminals, number) here (line, list) so_far out lays =
-        let b = subst (λ (o : Option Entered). Lays G P after.line (entered_slots o a.column ++ waiting_slots v) (rules_left v)
+        let b = subst (λ (o : Option Expansion). Lays G P after.line (entered_slots o a.column ++ waiting_slots v) (rules_left v)
         (drop v.piece ls) out) entered lays in
         let d = subst (λ (k : ℕ). Lays G P after.line (slots e.rule a.column 0 (several.listed e.items) ++ waiting_slots v)
         (rules_left v) (drop k ls) out) number b in
@@ -77,9 +71,7 @@ module _ {X : Type 0} (G : Model) (P : Question → Answer) (rules ls : List ℕ
         = node is shallow symbol known f in
         let k = subst (λ (rs : List ℕ). Lays G P before.line (slot_of s ∷ waiting_slots v) rs (drop w.piece ls) out)
         (sym rules-on) h in
-        let front : take v.piece after.list ≡ take w.piece before.list = ap (λ (j : ℕ). take j after.list) number
-        ∙ ap (take w.piece) list in
-        subst (λ (ps : List Placement). LaysOut G P rules ls (prefixed ps out)) (sym front) (so_far out k)
+        subst (λ (l : ArrayVec Placement). LaysOut G P rules ls (prefixed l.items out)) (sym list) (so_far out k)
 
     pub one_more : (column : ℕ) → Came G column w v s → Within s.item.symbol w.piece (length ls)
         → Puts s.item.symbol a ls w.piece before after → SoFar w column before → SoFar v a.column after
@@ -99,35 +91,15 @@ module _ {X : Type 0} (G : Model) (P : Question → Answer) (rules ls : List ℕ
 
   -- the end
   pub all_laid : (w : Walk X) (column : ℕ) (p : Placer) → Ended column w → length (listed w.terminals.now) ≡ length ls
-      → w.piece ≤ length ls → SoFar w column p → LaysOut G P rules ls (Ok (take (length ls) p.list))
+      → w.piece ≤ length ls → SoFar w column p → LaysOut G P rules ls (Ok p.list.items)
   all_laid w column p ended same within so_far =
       let d = length-drop w.piece (listed w.terminals.now) in
       let z : length (terminals_left w) ≡ 0 = ap length ended.terminals in
-      let n : w.piece ≡ length ls = omega arith in
       let none : drop w.piece ls ≡ [] = drop_all w.piece ls (omega arith) in
       let a = subst (λ (ss : List Slot). Lays G P p.line ss [] [] (Ok [])) (sym ended.slots) end in
       let b = subst (λ (rs : List ℕ). Lays G P p.line (pending w column) rs [] (Ok [])) (sym ended.rules) a in
       let e = subst (λ (ks : List ℕ). Lays G P p.line (pending w column) (rules_left w) ks (Ok [])) (sym none) b in
-      subst (LaysOut G P rules ls) (ap Ok (append-nil (take w.piece p.list) ∙ ap (λ (k : ℕ). take k p.list) n)) (so_far (Ok []) e)
-
-  -- the beginning
-  pub none-laid : (w : Walk X) (ts : List ℕ) (p : Placer) → Begun G rules ts w → p.line ≡ start → SoFar w 0 p
-  none-laid w ts p begun line out lays =
-      let top = begun.top in
-      let a = subst (λ (o : Option Entered). Lays G P p.line (entered_slots o 0 ++ waiting_slots w) (rules_left w)
-      (drop w.piece ls) out) begun.entered lays in
-      let b = subst (λ (ss : List Slot). Lays G P p.line (slots top.rule 0 0 (several.listed top.items) ++ ss) (rules_left w)
-      (drop w.piece ls) out) begun.slots a in
-      let d = subst (λ (ss : List Slot). Lays G P p.line ss (rules_left w) (drop w.piece ls) out)
-      (append-nil (slots top.rule 0 0 (several.listed top.items))) b in
-      let e = subst (λ (k : ℕ). Lays G P p.line (slots top.rule 0 0 (several.listed top.items)) (rules_left w) (drop k ls) out)
-      begun.piece d in
-      let f = subst (λ (l : Line). Lays G P l (slots top.rule 0 0 (several.listed top.items)) (rules_left w) ls out) line e in
-      let h : LaysOut G P (top.rule ∷ rules_left w) ls out = (record { left = begun.left; items = top.items }, begun.known, f) in
-      let k = subst (λ (rs : List ℕ). LaysOut G P rs ls out) (sym begun.rules_rest) h in
-      let front : prefixed (take w.piece p.list) out ≡ out = ap (λ (n : ℕ). prefixed (take n p.list) out) begun.piece
-      ∙ prefixed-none out in
-      subst (LaysOut G P rules ls) (sym front) k
+      subst (LaysOut G P rules ls) (ap Ok (append-nil p.list.items)) (so_far (Ok []) e)
 
 -- an item that covers a piece covers one that is there
 pub piece-within : {X : Type 0} (G : Model) (w v : Walk X) (n : ℕ) (u : Symbol) → Takes G u w v
@@ -147,12 +119,16 @@ piece-below G w v n (Terminal t) (terminals, rules, entered, number) same within
     omega arith
 piece-below G w v n (Nonterminal a) (e, entered, known, rules, terminals, number) same within = omega arith
 
--- placing keeps the memory as long as it is
-pub puts_long : (u : Symbol) (a : Answer) (ls : List ℕ) (k : ℕ) (before after : Placer) → Puts u a ls k before after
-    → length after.list ≡ length before.list
-puts_long (Terminal t) a ls k before after (line, list)
-    = ap length list ∙ length-set before.list k (placed (asked before.line a.breaks) a.column)
-puts_long (Nonterminal n) a ls k before after (line, list) = ap length list
+-- placing adds the placement of each piece that comes
+pub puts_long : {X : Type 0} (G : Model) (w v : Walk X) (u : Symbol) (a : Answer) (ls : List ℕ) (before after : Placer) → Takes G u w v
+    → Puts u a ls w.piece before after → length before.list.items ≡ w.piece → length after.list.items ≡ v.piece
+puts_long G w v (Terminal t) a ls before after (terminals, rules, entered, number) (line, list) so_far =
+    let l = ap length list in
+    let m = length-append before.list.items (placed (asked before.line a.breaks) a.column ∷ []) in
+    omega arith
+puts_long G w v (Nonterminal n) a ls before after (e, entered, known, rules, terminals, number) (line, list) so_far =
+    let l = ap (λ (x : ArrayVec Placement). length x.items) list in
+    omega arith
 
 pub lengths-long : (ps : List PieceRecord) → length (lengths ps) ≡ length ps
 lengths-long ps = length-map ps (λ (p : PieceRecord). p.length)

@@ -1,5 +1,5 @@
 -- What comes before a piece, and how long it is.
-use Rattle.std.proofs.Common.{◌≡◌, ℕ, ◌+◌, ◌-◌, Bool, true, false, cond, ◌∷◌, length, replicate, ap, arith}
+use Rattle.std.proofs.Common.{◌≡◌, ℕ, ◌+◌, ◌-◌, Bool, true, false, cond, List, ◌∷◌, length, replicate, ap, ◌∙◌, arith}
 use Rattle.std.proofs.lemmas.List.{length-replicate}
 use Rattle.tree.specs.declared.piece.PieceRecord.{PieceRecord}
 use Rattle.layout.specs.Text.{lead}
@@ -16,3 +16,8 @@ module _ (at : ℕ) (p : PieceRecord) where
 
   pub long_on : p.opens_line ≡ false → length (lead at p) ≡ p.column - at
   long_on stays = let e = ap length (lead_on stays) in let l = length-replicate {A = ℕ} (p.column - at) 32 in omega arith
+
+-- what comes before a piece that opens a line, or does not
+pub lead_by : (xs : List ℕ) (n : ℕ) (opens b : Bool) → xs ≡ cond opens (10 ∷ replicate n 32) (replicate n 32) → opens ≡ b
+    → xs ≡ cond b (10 ∷ replicate n 32) (replicate n 32)
+lead_by xs n opens b is by = is ∙ ap (λ (v : Bool). cond v (10 ∷ replicate n 32) (replicate n 32)) by

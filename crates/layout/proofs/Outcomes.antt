@@ -1,7 +1,6 @@
--- What comes out of laying a tree out: one thing, with a placement for each piece.
-use Rattle.std.proofs.Common.{◌≡◌, ℕ, suc, ◌<◌, ◌≤◌, List, [], ◌∷◌, ◌++◌, length, Some, Ok, Err, Result, sym, refl, ap, ◌∙◌, subst, arith}
+-- What comes out of laying a tree out: one thing.
+use Rattle.std.proofs.Common.{◌≡◌, ℕ, ◌<◌, ◌≤◌, List, [], ◌∷◌, ◌++◌, Some, Ok, Err, Result, sym, refl, ap, ◌∙◌, subst, arith}
 use Rattle.faults.specs.declared.fault.Fault.{Fault}
-use Rattle.grammar.specs.declared.rule.Symbol.TheVariants.{Terminal, Nonterminal}
 use Rattle.grammar.specs.declared.rule.Rule.{Rule}
 use Rattle.grammar.specs.Model.{Model}
 use Rattle.grammar.specs.Several.{listed}
@@ -15,31 +14,12 @@ use Rattle.layout.specs.Layouts.Lays.{end, deep, piece, node}
 use Rattle.layout.specs.Lines.{asked, behind, placed}
 use Rattle.layout.specs.Questions.{answer_of}
 
-apart : {t a : ℕ} → Terminal t ≡ Nonterminal a → ⊥
-apart e = let z : ◌≡◌ {A = ℕ} 0 1 = cc in omega arith
-
-prefixed-long : (p : Placement) (out : Result (List Placement) Fault) (qs : List Placement) (n : ℕ)
-    → ((us : List Placement) → out ≡ Ok us → length us ≡ n) → prefixed (p ∷ []) out ≡ Ok qs → length qs ≡ suc n
-prefixed-long p (Ok us) qs n long e =
-    let s : qs ≡ p ∷ us = cc in
-    let l = long us refl in
-    let m = ap length s in
-    omega arith
-prefixed-long p (Err f) qs n long e = let z : ◌≡◌ {A = ℕ} 0 1 = cc in absurd (omega arith)
+pub prefixed_ok : (p : Placement) (out : Result (List Placement) Fault) (ps : List Placement) → prefixed (p ∷ []) out ≡ Ok ps
+    → (qs : List Placement) × (out ≡ Ok qs) × (ps ≡ p ∷ qs)
+prefixed_ok p (Ok qs) ps e = (qs, refl, cc)
+prefixed_ok p (Err f) ps e = cc
 
 module _ (G : Model) (P : Question → Answer) where
-  pub lays-long : {line : Line} {ss : List Slot} {rs ls : List ℕ} {out : Result (List Placement) Fault} → Lays G P line ss rs ls out
-      → (qs : List Placement) → out ≡ Ok qs → length qs ≡ length ls
-  lays-long end qs e = let s : qs ≡ [] = cc in ap length s
-  lays-long (deep high) qs e = let z : ◌≡◌ {A = ℕ} 0 1 = cc in absurd (omega arith)
-  lays-long (piece {ls = ls} {out = out} is low symbol rest all) qs e
-      = prefixed-long _ out qs (length ls) (λ us o. lays-long rest us o) (sym all ∙ e)
-  lays-long (node is low symbol known rest) qs e = lays-long rest qs e
-
-  pub lays_out_long : (rules ls : List ℕ) (qs : List Placement) → LaysOut G P rules ls (Ok qs) → length qs ≡ length ls
-  lays_out_long [] ls qs l = absurd l
-  lays_out_long (r ∷ rs) ls qs l = lays-long l.2 qs refl
-
   -- an answer is not both above 63 and not
   torn : (line : Line) (s : Slot) (a : Answer) → a ≡ answer_of P line.cursor s → a.column ≤ 63
       → 63 < (answer_of P line.cursor s).column → ⊥
@@ -53,8 +33,8 @@ module _ (G : Model) (P : Question → Answer) where
   lays_one {line = line} (deep {s = s} high) (node {a = a} is low symbol known rest) = absurd (torn line s a is low high)
   lays_one {line = line} (piece {s = s} {a = a} is low symbol rest all) (deep high) = absurd (torn line s a is low high)
   lays_one {line = line} (node {s = s} {a = a} is low symbol known rest) (deep high) = absurd (torn line s a is low high)
-  lays_one (piece is low symbol rest all) (node is2 low2 symbol2 known rest2) = absurd (apart (sym symbol ∙ symbol2))
-  lays_one (node is low symbol known rest) (piece is2 low2 symbol2 rest2 all2) = absurd (apart (sym symbol2 ∙ symbol))
+  lays_one (piece is low symbol rest all) (node is2 low2 symbol2 known rest2) = cc
+  lays_one (node is low symbol known rest) (piece is2 low2 symbol2 rest2 all2) = cc
   lays_one {line = line} (piece {ss = ss} {rs = rs} {ls = ls} {l = l} {a = a} is low symbol rest all)
       (piece {a = b} {out = out} is2 low2 symbol2 rest2 all2) =
       let same : b ≡ a = is2 ∙ sym is in

@@ -1,15 +1,8 @@
 -- Bytes that are written behind others.
-use Rattle.std.proofs.Common.{◌≡◌, ℕ, ◌+◌, ◌-◌, ◌<◌, ◌≤◌, List, [], ◌∷◌, ◌++◌, length, take, drop, set, ap, ◌∙◌, arith}
+use Rattle.std.proofs.Common.{◌≡◌, ℕ, ◌+◌, ◌-◌, ◌≤◌, List, ◌++◌, length, take, drop, ap, ◌∙◌, arith}
 use borrow.Rule.Slice.PartMut.{put_mid}
-use Rattle.std.proofs.lemmas.List.{take_more_set, drop-set-lt, length-drop, length-append, length-take-le}
+use Rattle.std.proofs.lemmas.List.{length-drop, length-append, length-take-le}
 use Rattle.std.proofs.lemmas.Slice.{take-put_mid, drop-put_mid}
-
-module _ {X : Type 0} (out : List X) (i : ℕ) (x : X) (here : i < length out) where
-  pub one-front : take (i + 1) (set out i x) ≡ take i out ++ x ∷ []
-  one-front = take_more_set out i x here
-
-  pub one-rest : drop (i + 1) (set out i x) ≡ drop (i + 1) out
-  one-rest = drop-set-lt (i + 1) out i x (omega arith)
 
 pub part-long : {X : Type 0} (out : List X) (i n : ℕ) → i + n ≤ length out → length (take (i + n - i) (drop i out)) ≡ n
 part-long out i n fits =

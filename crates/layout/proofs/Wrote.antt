@@ -1,6 +1,6 @@
 -- One writing after another.
-use Rattle.std.proofs.Common.{◌≡◌, ℕ, ◌+◌, ◌-◌, ◌≤◌, List, ◌++◌, take, drop, ap, ◌∙◌, arith}
-use Rattle.std.proofs.lemmas.List.{append_assoc, length-append, drop-drop}
+use Rattle.std.proofs.Common.{◌≡◌, ℕ, ◌+◌, ◌-◌, ◌≤◌, List, [], ◌++◌, take, drop, sym, refl, ap, ◌∙◌, arith}
+use Rattle.std.proofs.lemmas.List.{append_assoc, append-nil, length-append, drop-drop}
 use Rattle.layout.specs.declared.line_writer.LineWriter.{LineWriter}
 use Rattle.layout.specs.Writers.{Wrote}
 
@@ -25,4 +25,27 @@ wrote_on w v u xs ys a b =
       room = b.room ∙ a.room;
       front = b.front ∙ ap (λ (zs : List ℕ). zs ++ ys) a.front ∙ append_assoc (take w.position w.out.now) xs ys;
       rest = b.rest ∙ further v.out.now w.out.now v.position u.position (omega arith) a.rest;
+    }
+
+-- nothing yet
+pub wrote_none : (w : LineWriter) → Wrote w w []
+wrote_none w =
+    record {
+      position = omega arith;
+      same = refl;
+      room = refl;
+      front = sym (append-nil (take w.position w.out.now));
+      rest = refl;
+    }
+
+-- whatever column the line has then reached
+pub wrote_reached : (w v : LineWriter) (xs : List ℕ) (n : ℕ) → Wrote w v xs
+    → Wrote w (record { out = v.out; position = v.position; reached = n }) xs
+wrote_reached w v xs n a =
+    record {
+      position = a.position;
+      same = a.same;
+      room = a.room;
+      front = a.front;
+      rest = a.rest;
     }

@@ -8,13 +8,12 @@
 --   ComesOut   just this comes out of laying a whole tree out
 --   outcome    an answer as placements or a fault
 --   Laid       the answer to how a tree is laid out: refused where it breaks a rule of the grammar, else what comes out
-use Rattle.std.specs.Prelude.{◌≡◌, ℕ, ◌<◌, ◌≤◌, false, ◌⊎◌, List, [], ◌∷◌, ◌++◌, map, take, Some, Ok, Err, Result}
+use Rattle.std.specs.Prelude.{◌≡◌, ℕ, ◌<◌, ◌≤◌, false, ◌⊎◌, List, [], ◌∷◌, ◌++◌, map, Some, Ok, Err, Result}
 use Rattle.std.specs.List.{slice_get}
 use Rattle.faults.specs.declared.fault.Fault.{Fault}
 use Rattle.faults.specs.declared.fault.Fault.TheVariants.{GrammarMismatch, TooDeep}
 use Rattle.grammar.specs.declared.rule.Symbol.TheVariants.{Terminal, Nonterminal}
 use Rattle.grammar.specs.declared.rule.Rule.{Rule}
-use Rattle.grammar.specs.Model as model
 use Rattle.grammar.specs.Several as several
 use Rattle.grammar.specs.Model.{Model}
 use Rattle.policy.specs.declared.question.Question.{Question}
@@ -29,7 +28,7 @@ use Rattle.layout.specs.Lines.{asked, behind, placed}
 use Rattle.layout.specs.Questions.{answer_of}
 
 abbrev pub listed : Layout → List Placement
-listed l = take l.count l.list
+listed l = l.list.items
 
 abbrev pub start : Line
 start = record { cursor = 0; breaks = false }

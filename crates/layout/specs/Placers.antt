@@ -3,7 +3,7 @@
 --   Puts      an item took its column: its piece was placed, or a break may wait for the first piece of its node
 --   taken     the column that an item takes, and whether it asks for a break
 --   Putting   an item's column with what was placed, or a refusal and nothing placed
-use Rattle.std.specs.Prelude.{◌≡◌, ℕ, ◌<◌, ◌≤◌, List, Ok, Err, Result, slice_index, slice_set}
+use Rattle.std.specs.Prelude.{◌≡◌, ℕ, ◌<◌, ◌≤◌, List, [], ◌∷◌, ◌++◌, Ok, Err, Result, slice_index}
 use Rattle.faults.specs.declared.fault.Fault.{Fault}
 use Rattle.faults.specs.declared.fault.Fault.TheVariants.{TooDeep}
 use Rattle.grammar.specs.declared.rule.Symbol.{Symbol}
@@ -23,7 +23,7 @@ Within (Nonterminal a) piece count = Unit {0}
 abbrev pub Puts : Symbol → Answer → List ℕ → ℕ → Placer → Placer → Type 0
 Puts (Terminal t) a lengths piece before after =
     (after.line ≡ behind a.column (slice_index lengths piece))
-    × (after.list ≡ slice_set before.list piece (placed (asked before.line a.breaks) a.column))
+    × (after.list.items ≡ before.list.items ++ placed (asked before.line a.breaks) a.column ∷ [])
 Puts (Nonterminal n) a lengths piece before after = (after.line ≡ asked before.line a.breaks) × (after.list ≡ before.list)
 
 abbrev pub taken : (Question → Answer) → Step → Placer → Answer

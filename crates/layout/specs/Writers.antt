@@ -1,7 +1,11 @@
 -- What a line writer does to the part that is lent to it.
---   Wrote   it wrote these bytes behind those that it had written, and no other byte has changed
-use Rattle.std.specs.Prelude.{◌≡◌, ℕ, ◌+◌, List, ◌++◌, length, take, drop}
+--   HasRoom   so many bytes more fit behind those that it has written
+--   Wrote     it wrote these bytes behind those that it had written, and no other byte has changed
+use Rattle.std.specs.Prelude.{◌≡◌, ℕ, ◌+◌, ◌≤◌, List, ◌++◌, length, take, drop}
 use Rattle.layout.specs.declared.line_writer.LineWriter.{LineWriter}
+
+abbrev pub HasRoom : LineWriter → ℕ → Type 0
+HasRoom w n = w.position + n ≤ length w.out.now
 
 pub record Wrote (w v : LineWriter) (xs : List ℕ) : Type 0 where
   pub position : v.position ≡ w.position + length xs

@@ -2,7 +2,6 @@ ghost use Rattle.std.specs.Prelude.{◌≡◌};
 ghost use Rattle.tree.specs.Walks.{slot_of};
 ghost use Rattle.layout.specs.Questions.{Settles, answer_of};
 
-use columns::relation::Relation;
 use faults::fault::Fault;
 use policy::policy::Policy;
 use policy::question::{Answer, Bound, Question};
@@ -12,14 +11,11 @@ use tree::walk::Step;
 fn answer<P: Policy>(policy: &P, step: &Step, cursor: u8) -> Answer
     ensures { result ≡ answer_of (P.answers policy.now) cursor (slot_of step.now) }
 {
-    let bound = match step.item.relation {
-        Relation::Equal => return Answer {
+    let Some(bound) = Bound::of(step.item.relation) else {
+        return Answer {
             column: step.column,
             breaks: false,
-        },
-        Relation::Above => Bound::Above,
-        Relation::AtLeast => Bound::AtLeast,
-        Relation::Any => Bound::Any,
+        };
     };
     let child = step.item.symbol.child();
     policy.answer(Question {

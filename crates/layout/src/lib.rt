@@ -4,6 +4,7 @@
 
 mod answer;
 pub mod lay_out;
+mod lead;
 mod line;
 mod line_writer;
 mod place;

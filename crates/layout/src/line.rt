@@ -5,7 +5,7 @@ use crate::placement::Placement;
 
 // The line that is being filled: its next free column, and whether a break waits for the next piece.
 // The cursor is 0 only before the first piece.
-#[derive(Clone, Copy)]
+#[derive(Clone, Copy, Default)]
 pub struct Line {
     pub(crate) cursor: u8,
     pub(crate) breaks: bool,

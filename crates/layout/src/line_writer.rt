@@ -1,20 +1,24 @@
-ghost use Rattle.std.specs.Prelude.{◌+◌, ◌<◌, ◌≤◌, [], ◌∷◌, ◌++◌, length, replicate};
-ghost use Rattle.layout.specs.Text.{lead};
-ghost use Rattle.layout.specs.Writers.{Wrote};
+ghost use Rattle.std.specs.Prelude.{◌≡◌, [], ◌∷◌, ◌++◌, length, replicate};
+ghost use Rattle.layout.specs.Text.{lead, reached};
+ghost use Rattle.layout.specs.Writers.{HasRoom, Wrote};
 
+use crate::lead::{reached_behind, spaces_before};
 use tree::piece::PieceRecord;
 
 // Writes into a lent part of a buffer, from its front on.
+// It keeps a position, since of a writer that kept only the rest of the part no clause could say what was written before it.
 #[derive(Drop)]
 pub struct LineWriter<'a> {
     pub(crate) out: &'a mut [u8],
     pub(crate) position: usize,
+    // the column that the line has reached
+    pub(crate) reached: u16,
 }
 
 impl LineWriter<'_> {
     // One byte.
     pub(crate) fn put(&mut self, byte: u8)
-        requires { self.old.position < length self.old.out.now }
+        requires { HasRoom self.old 1 }
         ensures { Wrote self.old self.new (byte ∷ []) }
     {
         self.out[self.position] = byte;
@@ -23,7 +27,7 @@ impl LineWriter<'_> {
 
     // As many spaces.
     fn spaces(&mut self, count: usize)
-        requires { self.old.position + count ≤ length self.old.out.now }
+        requires { HasRoom self.old count }
         ensures { Wrote self.old self.new (replicate count 32) }
     {
         let start = self.position;
@@ -34,7 +38,7 @@ impl LineWriter<'_> {
 
     // The bytes of a piece.
     fn bytes(&mut self, bytes: &[u8])
-        requires { self.old.position + length bytes.now ≤ length self.old.out.now }
+        requires { HasRoom self.old (length bytes.now) }
         ensures { Wrote self.old self.new bytes.now }
     {
         let start = self.position;
@@ -43,26 +47,26 @@ impl LineWriter<'_> {
         self.position = end;
     }
 
-    // What comes before a piece where the line has reached a column.
-    fn lead_in(&mut self, reached: usize, piece: &PieceRecord)
-        requires { self.old.position + length (lead reached piece.now) ≤ length self.old.out.now }
-        ensures { Wrote self.old self.new (lead reached piece.now) }
+    // What comes before a piece.
+    fn lead_in(&mut self, piece: &PieceRecord)
+        requires { HasRoom self.old (length (lead self.old.reached piece.now)) }
+        ensures { Wrote self.old self.new (lead self.old.reached piece.now) }
     {
-        let column = piece.column as usize;
+        let spaces = spaces_before(self.reached, piece);
         if piece.opens_line {
             self.put(b'\n');
-            self.spaces(column);
-        } else {
-            self.spaces(column.saturating_sub(reached));
         }
+        self.spaces(spaces as usize);
     }
 
-    // A piece behind a line that has reached a column.
-    pub(crate) fn piece(&mut self, reached: usize, piece: &PieceRecord, bytes: &[u8])
-        requires { self.old.position + length (lead reached piece.now ++ bytes.now) ≤ length self.old.out.now }
-        ensures { Wrote self.old self.new (lead reached piece.now ++ bytes.now) }
+    // A piece in its column.
+    pub(crate) fn piece(&mut self, piece: &PieceRecord, bytes: &[u8])
+        requires { HasRoom self.old (length (lead self.old.reached piece.now ++ bytes.now)) }
+        ensures wrote { Wrote self.old self.new (lead self.old.reached piece.now ++ bytes.now) }
+        ensures reached { self.new.reached ≡ reached piece.now }
     {
-        self.lead_in(reached, piece);
+        self.lead_in(piece);
         self.bytes(bytes);
+        self.reached = reached_behind(piece);
     }
 }

@@ -6,8 +6,7 @@ ghost use Rattle.layout.specs.Layouts.{ComesOut, lengths, outcome};
 ghost use Rattle.layout.specs.Placers.{Putting, Within};
 
 use crate::answer::settle;
-use crate::line::Line;
-use crate::placement::{Layout, Placement};
+use crate::placement::Layout;
 use crate::placer::Placer;
 use faults::fault::Fault;
 use grammar::grammar::Grammar;
@@ -20,7 +19,8 @@ use tree::walk::{Step, Walk};
 impl Placer {
     // Places what an item covers, and answers the item's column.
     fn put<P: Policy>(&mut self, policy: &P, step: &Step, contents: &Contents) -> Result<u8, Fault>
-        requires { Within step.now.item.symbol step.now.piece (length contents.now.pieces.now) }
+        requires next { step.now.piece ≡ length self.old.list.items }
+        requires there { Within step.now.item.symbol step.now.piece (length contents.now.pieces.now) }
         ensures { Putting (P.answers policy.now) step.now (lengths contents.now.pieces.now)
             self.old self.new result }
     {
@@ -28,7 +28,7 @@ impl Placer {
         self.line.ask(answer.breaks);
         if let Symbol::Terminal(_) = step.item.symbol {
             let length = contents.pieces[step.piece].length;
-            self.list[step.piece] = self.line.place(answer.column, length);
+            self.list.push(self.line.place(answer.column, length));
         }
         Ok(answer.column)
     }
@@ -47,22 +47,10 @@ pub(crate) fn place<'a, G: Grammar, P: Policy>(
         (rules_of contents.now.nodes.now) (lengths contents.now.pieces.now) (outcome result) }
 {
     let mut walk = Walk::new(grammar, contents.nodes, terminals)?;
-    let mut placer = Placer {
-        list: [Placement {
-            column: 0,
-            opens_line: false,
-        }; 128],
-        line: Line {
-            cursor: 0,
-            breaks: false,
-        },
-    };
+    let mut placer = Placer::default();
     let mut column = 0;
     while let Some(step) = walk.next(column)? {
         column = placer.put(policy, &step, contents)?;
     }
-    Ok(Layout {
-        list: placer.list,
-        count: contents.pieces.len(),
-    })
+    Ok(Layout { list: placer.list })
 }

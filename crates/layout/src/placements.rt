@@ -1,4 +1,4 @@
-ghost use Rattle.std.specs.Prelude.{◌≡◌};
+ghost use Rattle.std.specs.Prelude.{◌≡◌, ◌≤◌, length};
 ghost use Rattle.layout.specs.Layouts.{listed};
 
 use crate::placement::{Layout, Placement};
@@ -6,8 +6,9 @@ use crate::placement::{Layout, Placement};
 impl Layout {
     // The placements in the order of the pieces.
     pub fn as_slice(&self) -> &[Placement]
-        ensures { result.now ≡ listed self.now }
+        ensures is { result.now ≡ listed self.now }
+        ensures few { length result.now ≤ 128 }
     {
-        &self.list[0..self.count]
+        self.list.as_slice()
     }
 }

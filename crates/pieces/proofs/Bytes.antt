@@ -3,7 +3,7 @@ use Rattle.std.proofs.Common.{◌≡◌, ℕ, true, List, [], ◌∷◌, ◌++�
 use Rattle.std.proofs.lemmas.Bool.Decides.{nat_tests}
 use Rattle.pieces.specs.declared.piece.Class.{Class}
 use Rattle.pieces.specs.declared.piece.Class.TheVariants as class
-use Rattle.pieces.specs.declared.kind.Kind.TheVariants.{LineEnd, Separator, Letter, Digit, Quote, Sign}
+use Rattle.pieces.specs.declared.kind.Kind.TheVariants.{LineEnd, Separator, Letter, Digit, Sign}
 use Rattle.pieces.specs.Kinds.{kind_of, class_for, letter, digit, sign, goes_on}
 use Rattle.pieces.specs.Pieces.{Forms}
 
@@ -13,13 +13,13 @@ begins_line b e = grind (arith, nat_tests)
 pub begins_space : (b : ℕ) → kind_of b ≡ Separator → b ≡ 32
 begins_space b e = grind (arith, nat_tests)
 
-pub begins_letter : (b : ℕ) → kind_of b ≡ Letter → letter b ≡ true
+pub begins_letter : (b : ℕ) → class_for (kind_of b) ≡ Some class.Name → letter b ≡ true
 begins_letter b e = grind (arith, nat_tests)
 
-pub begins_digit : (b : ℕ) → kind_of b ≡ Digit → digit b ≡ true
+pub begins_digit : (b : ℕ) → class_for (kind_of b) ≡ Some class.Number → digit b ≡ true
 begins_digit b e = grind (arith, nat_tests)
 
-pub begins_quote : (b : ℕ) → kind_of b ≡ Quote → b ≡ 34
+pub begins_quote : (b : ℕ) → class_for (kind_of b) ≡ Some class.Quote → b ≡ 34
 begins_quote b e = grind (arith, nat_tests)
 
 pub letter_begins : (b : ℕ) → letter b ≡ true → kind_of b ≡ Letter

@@ -1,21 +1,11 @@
 -- One step of the reader, from what it found.
-use Rattle.std.proofs.Common.{◌≡◌, ℕ, ◌+◌, ◌-◌, ◌<◌, List, [], ◌∷◌, length, get_or, take, drop, None, sym, ap, ◌∙◌, subst}
-use Rattle.std.proofs.lemmas.List.{take-append-drop, drop-drop, drop_more, take_rest, length-take-le}
+use Rattle.std.proofs.Common.{◌≡◌, ℕ, ◌+◌, ◌-◌, List, [], ◌∷◌, length, take, drop, sym, ap, ◌∙◌, subst}
+use Rattle.std.proofs.lemmas.List.{take-append-drop, drop-drop, take_rest, length-take-le}
 use Rattle.faults.specs.declared.fault.Position.{Position}
 use Rattle.pieces.specs.declared.piece.Class.{Class}
-use Rattle.pieces.specs.Pieces.{Place, Found, Reads, NoPiece, right}
-use Rattle.pieces.specs.Lexeme.{Front, Fronts}
-use Rattle.pieces.specs.Reader.{Pause}
+use Rattle.pieces.specs.Pieces.{Place, Found, Reads, right}
+use Rattle.pieces.specs.Lexeme.{Fronts}
 use Rattle.pieces.proofs.Progress.{placed, join}
-
--- where no piece begins, the text is stuck
-pub stuck-here : (text : List ℕ) (i : ℕ) → i < length text → Pause (drop i text) → Front (take (length text - i) (drop i text)) None
-    → NoPiece (drop i text)
-stuck-here text i inside pause none =
-    let front : Front (drop i text) None = subst (λ (s : List ℕ). Front s None) (take_rest text i) none in
-    let more = drop_more text i 0 inside in
-    let p : Pause (get_or text i 0 ∷ drop (i + 1) text) = subst Pause more pause in
-    subst NoPiece (sym more) (p.0, p.1, subst (λ (s : List ℕ). Front s None) more front)
 
 -- the one piece with these bytes at i
 abbrev just : ℕ → Position → Class → List ℕ → List Found

@@ -15,15 +15,15 @@ pub enum Kind {
     Other,
 }
 
-// Whether that byte is a letter.
-pub fn is_letter(byte: u8) -> bool
+// Whether that byte is a letter. By ranges, here and below, as the definitions of pieces name them.
+fn is_letter(byte: u8) -> bool
     ensures { result ≡ letter byte }
 {
     matches!(byte, b'A'..=b'Z' | b'a'..=b'z')
 }
 
 // Whether that byte is a sign.
-pub fn is_sign(byte: u8) -> bool
+fn is_sign(byte: u8) -> bool
     ensures { result ≡ sign byte }
 {
     matches!(byte, b'('..=b'-' | b'/' | b':'..=b'>' | b'{' | b'}')

@@ -13,6 +13,8 @@ pub struct Lexeme {
     pub length: usize,
 }
 
+// Three short chains: one function of a test would need clauses on that test.
+
 // How many bytes at the front a name runs on through.
 fn name_length(bytes: &[u8]) -> usize
     ensures { result ≡ prefix_len goes_on bytes.now }
@@ -37,16 +39,14 @@ fn quotable_length(bytes: &[u8]) -> usize
     bytes.iter().take_while(|byte| is_quotable(**byte)).count()
 }
 
-// The quote of which these bytes follow the opening one, if it is closed.
-fn quote(inside: &[u8]) -> Option<Lexeme>
+// The length of the quote of which these bytes follow the opening one, if it is closed.
+fn quote_length(inside: &[u8]) -> Option<usize>
     ensures { Quoted inside.now result }
 {
+    // By place, as the length is counted from it.
     let end = quotable_length(inside);
     if end < inside.len() && inside[end] == b'"' {
-        Some(Lexeme {
-            class: Class::Quote,
-            length: end + 2,
-        })
+        Some(end + 2)
     } else {
         None
     }
@@ -60,21 +60,13 @@ impl Lexeme {
         let [first, rest @ ..] = bytes else {
             return None;
         };
-        match Kind::from(*first) {
-            Kind::Letter => Some(Lexeme {
-                class: Class::Name,
-                length: name_length(bytes),
-            }),
-            Kind::Digit => Some(Lexeme {
-                class: Class::Number,
-                length: number_length(bytes),
-            }),
-            Kind::Quote => quote(rest),
-            Kind::Sign => Some(Lexeme {
-                class: Class::Sign,
-                length: 1,
-            }),
-            Kind::LineEnd | Kind::Separator | Kind::Other => None,
-        }
+        let class = Kind::from(*first).class()?;
+        let length = match class {
+            Class::Name => name_length(bytes),
+            Class::Number => number_length(bytes),
+            Class::Quote => quote_length(rest)?,
+            Class::Sign => 1,
+        };
+        Some(Lexeme { class, length })
     }
 }

@@ -61,6 +61,7 @@ impl<'a> PieceReader<'a> {
     }
 
     // The next piece, or none at the end of the text. A text of more than 12,288 bytes hands out none.
+    // No Iterator: a reader that refuses would refuse for ever, and a `for` asks for an end.
     pub fn next_piece(&mut self) -> Result<Option<Piece<'a>>, Fault>
         ensures { Hands self.old result self.new }
     {
@@ -75,9 +76,7 @@ impl<'a> PieceReader<'a> {
             return Ok(None);
         }
         let rest = &text[start..];
-        let Some(Lexeme { class, length }) = Lexeme::at_front(rest) else {
-            return Err(Fault::NoPiece(position));
-        };
+        let Lexeme { class, length } = Lexeme::at_front(rest).ok_or(Fault::NoPiece(position))?;
         self.offset = start + length;
         self.position.column = position.column + length as u16;
         Ok(Some(Piece {

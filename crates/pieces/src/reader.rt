@@ -3,6 +3,7 @@ ghost use Rattle.std.specs.Prelude.{◌+◌, ◌≤◌, length};
 use faults::fault::Position;
 
 // Walks along a text and hands out its pieces, each as a part of the text.
+// The offset is kept, since each piece tells where it starts.
 #[derive(Drop)]
 pub struct PieceReader<'a> {
     pub(crate) text: &'a [u8],

@@ -1,6 +1,8 @@
 ghost use Rattle.std.specs.Prelude.{◌≡◌};
+ghost use Rattle.policy.specs.Answers.{bound_of};
 ghost use Rattle.policy.specs.Policies.{least_column, unmarked as settled};
 
+use columns::relation::Relation;
 use grammar::rule::Child;
 
 // How the column that is asked for is bounded by the node's. An item with `=` is never asked about.
@@ -9,6 +11,20 @@ pub enum Bound {
     Above,
     AtLeast,
     Any,
+}
+
+impl Bound {
+    // The bound of an item with that relation; none for `=`.
+    pub fn of(relation: Relation) -> Option<Bound>
+        ensures { result ≡ bound_of relation }
+    {
+        match relation {
+            Relation::Equal => None,
+            Relation::Above => Some(Bound::Above),
+            Relation::AtLeast => Some(Bound::AtLeast),
+            Relation::Any => Some(Bound::Any),
+        }
+    }
 }
 
 // What a policy is told of an item.

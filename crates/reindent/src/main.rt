@@ -4,6 +4,7 @@
 #![tactic(auto)]
 
 use formatter::output::print_reindented;
+use formatter::refusal::Refusal;
 use std::io::{Read, Write};
 use std::process::ExitCode;
 
@@ -13,11 +14,11 @@ const LIMIT: u64 = 12289;
 fn main(rt: HostRuntime) -> anyhow::Result<ExitCode> {
     let mut text = Vec::new(rt.alloc());
     rt.stdin().take(LIMIT).read_to_end(&mut text)?;
-    let output = print_reindented(rt.alloc(), text.as_slice())?;
-    rt.stdout().write_all(output.bytes.as_slice())?;
-    if output.accepted {
-        Ok(ExitCode::SUCCESS)
-    } else {
-        Ok(ExitCode::FAILURE)
-    }
+    let (printed, code) = match print_reindented(rt.alloc(), text.as_slice()) {
+        Ok(script) => (script, ExitCode::SUCCESS),
+        Err(Refusal::Fault(line)) => (line.into_bytes(), ExitCode::FAILURE),
+        Err(Refusal::Memory(error)) => return Err(error.into()),
+    };
+    rt.stdout().write_all(printed.as_slice())?;
+    Ok(code)
 }

@@ -1,22 +1,43 @@
 -- Values by their first byte and the rest, as slices have these.
-use Rattle.std.proofs.Common.{◌≡◌, ℕ, ◌-◌, true, cond, ◌&&◌, List, [], ◌∷◌, length, get_or, take, drop, sym, ap, ◌∙◌, arith}
+use Rattle.std.proofs.Common.{◌≡◌, ℕ, ◌-◌, Bool, true, false, ◌&&◌, ◌||◌, List, [], ◌∷◌, length, get_or, take, drop, refl, sym, ap, ◌∙◌}
+use Rattle.std.proofs.Common.{arith}
+use Rattle.std.specs.Char.{is_ascii_uppercase, is_ascii_alphanumeric}
+use Rattle.std.specs.List.{list_all}
 use Rattle.std.proofs.lemmas.List.{take_rest}
-use Rattle.std.proofs.lemmas.Bool.{eq-eqb}
-use Rattle.pieces.specs.Kinds.{within, letter, goes_on}
-use Rattle.grammar.specs.Lawful.{every, one_name}
-use Rattle.rulefile.specs.Forms.{letter_or_digit, capitalized, word_form, bare_form, symbol_form}
+use Rattle.std.proofs.lemmas.Bool.Decides.{nat_tests}
+use Rattle.pieces.specs.Kinds.{letter, sign, goes_on, kind_of}
+use Rattle.pieces.specs.declared.kind.Kind.TheVariants as kind
+use Rattle.grammar.specs.Lawful.{every, one_sign}
+use Rattle.rulefile.specs.Forms.{capitalized}
+use Rattle.rulefile.specs.Spelled.{formed}
 
-pub name_begun : (s : List ℕ) → letter (get_or s 0 0) ≡ true → every goes_on (take (length s - 1) (drop 1 s)) ≡ one_name s
-name_begun [] h = let z : ◌≡◌ {A = ℕ} 0 1 = cc in absurd (omega arith)
+every_is : (test : ℕ → Bool) (s : List ℕ) → every test s ≡ list_all test s
+every_is test [] = refl
+every_is test (b ∷ s) = ap (λ v. test b && v) (every_is test s)
+
+-- what begins with a letter is no sign
+letter_first : (b : ℕ) → kind_of b ≡ kind.Letter → (letter b ≡ true) × (sign b ≡ false)
+letter_first b e = (grind (arith, nat_tests), grind (arith, nat_tests))
+
+or-false : (b : Bool) → (b || false) ≡ b
+or-false true = refl
+or-false false = refl
+
+no_sign : (b : ℕ) (s : List ℕ) → sign b ≡ false → one_sign (b ∷ s) ≡ false
+no_sign b [] h = h
+no_sign b (c ∷ s) h = refl
+
+pub name_begun : (s : List ℕ) → kind_of (get_or s 0 0) ≡ kind.Letter → list_all goes_on (take (length s - 1) (drop 1 s)) ≡ formed s
+name_begun [] h = absurd cc
 name_begun (b ∷ s) h =
-    ap (λ (t : List ℕ). every goes_on t) (take_rest (b ∷ s) 1) ∙ sym (ap (λ v. v && every goes_on s) h)
+    let l = letter_first b h in
+    let n = no_sign b s l.1 in
+    ap (λ (t : List ℕ). list_all goes_on t) (take_rest (b ∷ s) 1) ∙ sym (every_is goes_on s)
+    ∙ rw (l.0, n) (sym (or-false (every goes_on s)))
 
-pub capital_begun : (s : List ℕ) → within 65 90 (get_or s 0 0) ≡ true
-    → every letter_or_digit (take (length s - 1) (drop 1 s)) ≡ capitalized s
-capital_begun [] h = let z : ◌≡◌ {A = ℕ} 0 1 = cc in absurd (omega arith)
+pub capital_begun : (s : List ℕ) → is_ascii_uppercase (get_or s 0 0) ≡ true
+    → list_all is_ascii_alphanumeric (take (length s - 1) (drop 1 s)) ≡ capitalized s
+capital_begun [] h = absurd cc
 capital_begun (b ∷ s) h =
-    ap (λ (t : List ℕ). every letter_or_digit t) (take_rest (b ∷ s) 1) ∙ sym (ap (λ v. v && every letter_or_digit s) h)
-
-pub quoted_begun : (v : List ℕ) → get_or v 0 0 ≡ 39 → word_form (take (length v - 1) (drop 1 v)) ≡ symbol_form v
-quoted_begun v h =
-    ap word_form (take_rest v 1) ∙ sym (ap (λ b. cond b (word_form (drop 1 v)) (bare_form v)) (eq-eqb (get_or v 0 0) 39 h))
+    ap (λ (t : List ℕ). list_all is_ascii_alphanumeric t) (take_rest (b ∷ s) 1)
+    ∙ sym (ap (λ v. v && list_all is_ascii_alphanumeric s) h)

@@ -9,7 +9,8 @@ use Rattle.rulefile.specs.Bounds.{below, all_below, in_bounds}
 use Rattle.rulefile.specs.Denoted.{alike}
 use Rattle.rulefile.specs.Loaded.{names_of, terminals_of, rules_of}
 use Rattle.rulefile.specs.Places.{place, with_new, gathered, same_name}
-use Rattle.rulefile.specs.Rows.{Called, nonterminal, terminal, Several, one, two, three, Line, symbols, names_among, terminals_among}
+use Rattle.grammar.specs.declared.several.Several.TheVariants.{One, Two, Three}
+use Rattle.rulefile.specs.Rows.{Called, nonterminal, terminal, Entries, Line, symbols, names_among, terminals_among}
 use Rattle.rulefile.specs.Rows.{names_in, terminals_in, symbol_by, items_by, rule_by}
 use Rattle.rulefile.specs.Tables.{names, terminals, rules}
 use Rattle.rulefile.specs.Gathering.{gathered-append, settled}
@@ -42,11 +43,11 @@ symbols-low ns ts (terminal t ∷ ss) ms us N T a b = (
   symbols-low ns (with_new alike ts t) ss ms us N T a b,
 )
 
-items-low : (N : List (List ℕ)) (T : List Terminal) (s : Several) → AllByRecursion (Low N T) (symbols s) → all_below (length N) (length T)
+items-low : (N : List (List ℕ)) (T : List Terminal) (s : Entries) → AllByRecursion (Low N T) (symbols s) → all_below (length N) (length T)
     (items_by N T s) ≡ true
-items-low N T (one x) h = h.0
-items-low N T (two x y) h = and_from _ _ h.0 h.1.0
-items-low N T (three x y z) h = and_from _ _ (and_from _ _ h.0 h.1.0) h.1.1.0
+items-low N T (One x) h = h.0
+items-low N T (Two x y) h = and_from _ _ h.0 h.1.0
+items-low N T (Three x y z) h = and_from _ _ (and_from _ _ h.0 h.1.0) h.1.1.0
 
 lines_low : (ns : List (List ℕ)) (ts : List Terminal) (ls : List Line) (N : List (List ℕ)) (T : List Terminal)
     → gathered same_name ns (flat_map names_in ls) ≡ N → gathered alike ts (flat_map terminals_in ls) ≡ T

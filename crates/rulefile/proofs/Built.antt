@@ -1,7 +1,7 @@
 -- Building the tables line by line.
 use Rattle.std.proofs.Common.{◌≡◌, ℕ, ◌≤◌, true, false, ◌||◌, ltb, List, [], ◌∷◌, ◌++◌, map, length, Some, None, sym, ap, ◌∙◌, subst, arith}
 use Rattle.std.specs.List.{flat_map}
-use Rattle.std.proofs.lemmas.List.{append_assoc, append-nil, length-append}
+use Rattle.std.proofs.lemmas.List.{append_assoc, length-append}
 use Rattle.std.proofs.lemmas.Bool.Decides.{nat_tests}
 use Rattle.grammar.specs.declared.rule.Rule.{Rule}
 use Rattle.grammar.specs.Model.{Terminal}
@@ -21,16 +21,6 @@ pub record Goes (ls : List Line) (t : Table) (left : List Line) : Type 0 where
   pub terminals : gathered alike (terminals t.terminals) (flat_map terminals_in left) ≡ terminals_of ls
   pub rules : rules t.rules ++ map (rule_by (names_of ls) (terminals_of ls)) left ≡ rules_of ls
 
-pub goes_none : (ls : List Line) (t : Table) → names t.names ≡ [] → terminals t.terminals ≡ [] → rules t.rules ≡ [] → Goes ls t ls
-goes_none ls t n m r = record {
-  names = ap (λ (ws : List (List ℕ)). gathered same_name ws (flat_map names_in ls)) n;
-  terminals = ap (λ (ws : List Terminal). gathered alike ws (flat_map terminals_in ls)) m;
-  rules = ap (λ (ws : List Rule). ws ++ rules_of ls) r;
-}
-
-pub goes_all : (ls : List Line) (t : Table) → Goes ls t [] → Built ls (Some t)
-goes_all ls t g = (g.names, g.terminals, sym (append-nil (rules t.rules)) ∙ g.rules)
-
 pub goes_more : (ls : List Line) (t u : Table) (l : Line) (left : List Line) (x : Unit {0}) → Goes ls t (l ∷ left) → Adds l t (Some x) u
     → Goes ls u left
 goes_more ls t u l left x g (n, m, r) =
@@ -48,7 +38,7 @@ goes_more ls t u l left x g (n, m, r) =
       rules = ap (λ (ws : List Rule). ws ++ map by left) c ∙ append_assoc (rules t.rules) (by l ∷ []) (map by left) ∙ g.rules;
     }
 
-pub over : (n t r : ℕ) → (ltb 16 n || ltb 32 t || ltb 64 r) ≡ true → limits n t r ≡ false
+over : (n t r : ℕ) → (ltb 16 n || ltb 32 t || ltb 64 r) ≡ true → limits n t r ≡ false
 over n t r h = grind (arith, nat_tests)
 
 pub goes_full : (ls : List Line) (t u : Table) (l : Line) (left : List Line) → Goes ls t (l ∷ left) → Adds l t None u → Built ls None

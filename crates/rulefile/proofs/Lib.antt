@@ -1,10 +1,12 @@
 pub mod Added
+pub mod Alike
 pub mod Begun
 pub mod Bounded
 pub mod Built
 pub mod Cutting
 pub mod Distinct
 pub mod Finished
-pub mod FirstWith
-pub mod Seeking
+pub mod Loading
+pub mod Numbered
+pub mod Positions
 pub mod Under

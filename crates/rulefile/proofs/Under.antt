@@ -1,11 +1,26 @@
 -- The value that stands under a name.
-use Rattle.std.proofs.Common.{◌≡◌, ℕ, true, false, cond, List, ◌∷◌, ap}
+use Rattle.std.proofs.Common.{◌≡◌, ℕ, List, [], Some, None, Option, sym, refl, ap, ◌∙◌}
+use Rattle.std.specs.Prelude.{find}
+use Rattle.std.specs.Borrow.{Bor}
+use Rattle.std.specs.List.{zip}
+use Rattle.std.specs.Option.{option_map, option_map_or}
 use Rattle.std.specs.Str.{bytes_eq}
 use Rattle.rulefile.specs.Parts.{under}
 
-module _ (name own value : List ℕ) (ns vs : List (List ℕ)) (N V : List (List ℕ)) (n : N ≡ own ∷ ns) (v : V ≡ value ∷ vs) where
-  pub under-here : bytes_eq own name ≡ true → under name N V ≡ value
-  under-here e = rw (n, v) (ap (λ b. cond b value (under name ns vs)) e)
+-- a name and the value below it, as lists
+abbrev pub seen : Bor (List ℕ) × Bor (List ℕ) → List ℕ × List ℕ
+seen p = (p.0.now, p.1.now)
 
-  pub under-later : bytes_eq own name ≡ false → under name N V ≡ under name ns vs
-  under-later e = rw (n, v) (ap (λ b. cond b value (under name ns vs)) e)
+module _ (name : List ℕ) (ns vs : List (List ℕ)) (r : Option (Bor (List ℕ) × Bor (List ℕ)))
+    (found : option_map seen r ≡ find (λ p. bytes_eq p.0 name) (zip ns vs)) where
+  below : (o : Option (Bor (List ℕ) × Bor (List ℕ))) → r ≡ o → (value : Bor (List ℕ))
+      → ((p : Bor (List ℕ) × Bor (List ℕ)) → r ≡ Some p → value.now ≡ p.1.now) → (r ≡ None → value.now ≡ [])
+      → value.now ≡ under name ns vs
+  below None e value some none =
+      none e ∙ ap (λ (o : Option (List ℕ × List ℕ)). option_map_or (λ p. p.1) o []) (sym (ap (option_map seen) e) ∙ found)
+  below (Some p) e value some none =
+      some p e ∙ ap (λ (o : Option (List ℕ × List ℕ)). option_map_or (λ p. p.1) o []) (sym (ap (option_map seen) e) ∙ found)
+
+  pub under_either : (value : Bor (List ℕ)) → ((p : Bor (List ℕ) × Bor (List ℕ)) → r ≡ Some p → value.now ≡ p.1.now)
+      → (r ≡ None → value.now ≡ []) → value.now ≡ under name ns vs
+  under_either value some none = below r refl value some none

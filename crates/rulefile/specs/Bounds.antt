@@ -2,8 +2,8 @@
 --   in_bounds   the left symbol and the items of a rule are below the counts of nonterminals and terminals
 --   ordered     the only item of a rule, if it is a nonterminal, has a higher number than the left one
 --   unordered   the line of the first rule that is not so; the first rule has that line
-use Rattle.std.specs.Prelude.{ℕ, ◌+◌, Bool, true, cond, ◌&&◌, List, [], ◌∷◌, Some, None, Option, nat_lt}
-use Rattle.std.specs.List.{list_all}
+use Rattle.std.specs.Prelude.{ℕ, Bool, true, not, ◌&&◌, List, Option, nat_lt}
+use Rattle.std.specs.List.{list_all, position_from}
 use Rattle.grammar.specs.declared.rule.Symbol.{Symbol}
 use Rattle.grammar.specs.declared.rule.Symbol.TheVariants as symbol
 use Rattle.grammar.specs.Model.{Items}
@@ -38,5 +38,4 @@ abbrev pub ordered : Rule → Bool
 ordered r = items_ordered r.left r.items
 
 abbrev pub unordered : ℕ → List Rule → Option ℕ
-unordered n [] = None
-unordered n (r ∷ rs) = cond (ordered r) (unordered (n + 1) rs) (Some n)
+unordered n rs = position_from (λ r. not (ordered r)) n rs

@@ -1,10 +1,10 @@
 -- What a terminal of a rule file denotes.
 --   denoted       it as a terminal of a grammar
 --   alike         a test of a terminal: it is the same class, or the word of the same spelling
---   listed        the first of some terminals, as many as count, as terminals of a grammar
+--   listed        some terminals as terminals of a grammar
 --   is_distinct   no element is the same as one after it, by a test
 --   distinct      no two terminals are alike
-use Rattle.std.specs.Prelude.{ℕ, Bool, true, not, ◌&&◌, List, [], ◌∷◌, map, take, Some}
+use Rattle.std.specs.Prelude.{Bool, true, not, ◌&&◌, List, [], ◌∷◌, map, Some}
 use Rattle.std.specs.List.{list_all}
 use Rattle.pieces.specs.declared.piece.Class.TheVariants as class
 use Rattle.grammar.specs.Model as model
@@ -22,8 +22,8 @@ abbrev pub alike : model.Terminal → model.Terminal → Bool
 alike (model.class c) = model.classed (Some c)
 alike (model.word w) = model.spelled w
 
-abbrev pub listed : ℕ → List Terminal → List model.Terminal
-listed count list = map denoted (take count list)
+abbrev pub listed : List Terminal → List model.Terminal
+listed ts = map denoted ts
 
 abbrev pub is_distinct : {X : Type 0} → (X → X → Bool) → List X → Bool
 is_distinct same [] = true

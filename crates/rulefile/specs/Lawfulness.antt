@@ -1,9 +1,10 @@
 -- A loaded grammar keeps the law of grammars.
-use Rattle.std.specs.Prelude.{◌≡◌, ℕ, zero, suc, Bool, true, not, List, [], ◌∷◌, length, take, Some, None, Option, refl}
+use Rattle.std.specs.Prelude.{◌≡◌, ℕ, zero, suc, Bool, true, not, List, [], ◌∷◌, length, Some, None, Option, refl}
 use Rattle.std.proofs.Common.{sym, ap, subst, ◌∙◌, arith}
 use Rattle.std.specs.Option.{option_map}
 use Rattle.std.specs.List.{slice_get, list_all, AllByRecursion}
-use Rattle.std.proofs.lemmas.List.{length-take, length-take-le}
+use Rattle.std.proofs.lemmas.List.{length-take, length-map}
+use Rattle.std.proofs.lemmas.Option.{slice_get-map}
 use Rattle.std.proofs.lemmas.Bool.{and_parts, ltb-true, not-true, both_ways}
 use Rattle.grammar.specs.declared.rule.Symbol.{Symbol}
 use Rattle.grammar.specs.declared.rule.Symbol.TheVariants as symbol
@@ -21,8 +22,6 @@ use Rattle.rulefile.specs.Built.{model_of}
 use Rattle.rulefile.specs.Denoted.{denoted, alike, is_distinct}
 use Rattle.rulefile.specs.Spelled.{spelled}
 use Rattle.rulefile.specs.Tables.{terminals, rules}
-use Rattle.rulefile.specs.Gets.{nth-map}
-use Rattle.rulefile.specs.Growing.{length-listed}
 use Rattle.rulefile.specs.Symbols.{alike_itself}
 
 -- what passes for all passes at a number
@@ -98,18 +97,18 @@ proper G r b o =
 pub lawful : (g : LoadedGrammar) → Lawful (model_of g.table)
 lawful g =
     let t = g.table in
-    let i = length-listed spelled t.names.count t.names.list (omega (arith, t.names.few, t.names.whole)) in
-    let j = length-listed denoted t.terminals.count t.terminals.list (omega (arith, t.terminals.few, t.terminals.whole)) in
-    let k = length-take-le t.rules.count t.rules.list (omega (arith, t.rules.few, t.rules.whole)) in
+    let i = length-map t.names.items spelled in
+    let j = length-map t.terminals.list.items denoted in
     let s = g.some in
+    let f = g.few in
     record {
-      nonterminals = (omega (arith, i, s.0), omega (arith, i, t.names.few));
-      terminals = (omega (arith, j, s.1), omega (arith, j, t.terminals.few));
-      rules = (omega (arith, k, s.2), omega (arith, k, t.rules.few));
+      nonterminals = (omega (arith, i, s.0), omega (arith, i, f.0));
+      terminals = (omega (arith, j, s.1), omega (arith, j, f.1));
+      rules = (omega (arith, s.2), omega (arith, f.2));
       once = λ a b x p q. once (terminals t.terminals) a b x t.terminals.once p q;
       spelling = λ a x p.
-          formed_at (slice_get (take t.terminals.count t.terminals.list) a) x
-          (sym (nth-map denoted (take t.terminals.count t.terminals.list) a) ∙ p);
+          formed_at (slice_get t.terminals.list.items a) x
+          (sym (slice_get-map denoted t.terminals.list.items a) ∙ p);
       proper = λ a r p.
           proper (model_of t) r (pass_at _ (rules t.rules) a r g.bounded p)
           (pass_at ordered (rules t.rules) a r g.in_order p);

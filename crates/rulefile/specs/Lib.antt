@@ -8,12 +8,12 @@ pub mod Parts
 pub mod Places
 pub mod Reading
 pub mod Rows
+pub mod Shown
 pub mod Spelled
 pub mod Tables
 pub mod Told
 pub mod Views
 pub mod Lawfulness
-pub mod Gets
 pub mod Growing
 pub mod Symbols
 pub mod Gathering

@@ -7,8 +7,9 @@
 --   limited     counts within their limits, else 6; then rules with one nonterminal in order, else 7
 --   by_rows     the lines behind the first one: 3, then 4, then 5, each over all lines
 --   loaded      the file: 1, then 2, then its lines
-use Rattle.std.specs.Prelude.{ℕ, ◌+◌, Bool, true, false, cond, not, ◌&&◌, ◌||◌, List, [], ◌∷◌, map, length, Some, None, Ok, Err, Option, Result, ◌==◌, nat_le, nat_lt}
-use Rattle.std.specs.List.{list_all, flat_map}
+use Rattle.std.specs.Prelude.{ℕ, Bool, true, false, cond, not, ◌&&◌, ◌||◌, List, [], ◌∷◌, map, length, Some, None, Ok, Err, Option}
+use Rattle.std.specs.Prelude.{Result, ◌==◌, nat_le, nat_lt}
+use Rattle.std.specs.List.{list_all, flat_map, position_from}
 use Rattle.faults.specs.declared.fault.Fault.{Fault}
 use Rattle.faults.specs.declared.fault.Fault.TheVariants.{FileBytes, FileNames, ValueCount, ValueForm, ItemGap, GrammarSize, UnitRule}
 use Rattle.pieces.specs.Kinds.{within}
@@ -40,8 +41,7 @@ fails f (Ok l) = false
 fails f (Err g) = same_fault f g
 
 abbrev pub line_with : LineFault → ℕ → List (Result Line LineFault) → Option ℕ
-line_with f n [] = None
-line_with f n (r ∷ rs) = cond (fails f r) (Some n) (line_with f (n + 1) rs)
+line_with f n rs = position_from (fails f) n rs
 
 abbrev pub listed_line : Result Line LineFault → List Line → List Line
 listed_line (Ok l) ls = l ∷ ls

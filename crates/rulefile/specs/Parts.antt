@@ -3,8 +3,9 @@
 --   seven_values   a line of seven values with single spaces: seven parts, none empty, and no space at the end
 --   under          the value in a line that stands under a name of the first line; nothing if there is none
 --   seven_names    the first line: seven values, among them each of the seven names
-use Rattle.std.specs.Prelude.{◌≡◌, ℕ, ◌-◌, ◌<◌, Bool, true, false, cond, not, ◌&&◌, ◌||◌, List, [], ◌∷◌, length, codes, ◌==◌, slice_index}
-use Rattle.std.specs.List.{list_all}
+use Rattle.std.specs.Prelude.{◌≡◌, ℕ, ◌-◌, ◌<◌, Bool, cond, not, ◌&&◌, List, [], ◌∷◌, length, codes, ◌==◌, slice_index, find}
+use Rattle.std.specs.List.{list_all, list_any, zip}
+use Rattle.std.specs.Option.{option_map_or}
 use Rattle.std.specs.Str.{bytes_eq}
 
 -- one byte more at the front of the first part
@@ -21,13 +22,8 @@ abbrev pub Splits : ℕ → List ℕ → List ℕ → List ℕ → Type 0
 Splits separator bytes part behind =
     (parts separator bytes ≡ part ∷ parts separator behind) × (length behind < length bytes)
 
--- any byte but the separator
-abbrev pub other : ℕ → ℕ → Bool
-other separator b = not (b == separator)
-
 abbrev pub filled : List ℕ → Bool
-filled [] = false
-filled (b ∷ s) = true
+filled s = not (length s == 0)
 
 abbrev pub ends_with : ℕ → List ℕ → Bool
 ends_with b s = slice_index s (length s - 1) == b
@@ -40,8 +36,7 @@ seven_values line = list_all filled (values line) && length (values line) == 7 &
 
 -- that name is among these
 abbrev pub among : List (List ℕ) → List ℕ → Bool
-among [] name = false
-among (n ∷ ns) name = bytes_eq n name || among ns name
+among ns name = list_any (λ n. bytes_eq n name) ns
 
 abbrev pub names : List (List ℕ)
 names = codes "left" ∷ codes "sym1" ∷ codes "rel1" ∷ codes "sym2" ∷ codes "rel2" ∷ codes "sym3" ∷ codes "rel3" ∷ []
@@ -50,6 +45,4 @@ abbrev pub seven_names : List ℕ → Bool
 seven_names line = seven_values line && list_all (among (values line)) names
 
 abbrev pub under : List ℕ → List (List ℕ) → List (List ℕ) → List ℕ
-under name [] vs = []
-under name (n ∷ ns) [] = []
-under name (n ∷ ns) (v ∷ vs) = cond (bytes_eq n name) v (under name ns vs)
+under name ns vs = option_map_or (λ p. p.1) (find (λ p. bytes_eq p.0 name) (zip ns vs)) []

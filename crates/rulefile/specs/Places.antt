@@ -3,12 +3,12 @@
 --   with_new   a list, with an element added at the end unless one like it is there
 --   gathered   a list, with each of some elements added so in turn
 --   Numbers    what becomes of a list when an element gets its number
-use Rattle.std.specs.Prelude.{◌≡◌, ℕ, ◌<◌, Bool, cond, not, List, [], ◌∷◌, ◌++◌, length, Some, None, Option, nat_lt}
-use Rattle.std.specs.List.{prefix_len}
+use Rattle.std.specs.Prelude.{◌≡◌, ℕ, ◌<◌, Bool, cond, List, [], ◌∷◌, ◌++◌, length, Some, None, Option, nat_lt}
+use Rattle.std.specs.List.{position_or_len}
 use Rattle.std.specs.Str.{bytes_eq}
 
 abbrev pub place : {X : Type 0} → (X → Bool) → List X → ℕ
-place test xs = prefix_len (λ x. not (test x)) xs
+place test xs = position_or_len test xs
 
 abbrev pub with_new : {X : Type 0} → (X → X → Bool) → List X → X → List X
 with_new like xs x = cond (nat_lt (place (like x) xs) (length xs)) xs (xs ++ x ∷ [])

@@ -5,43 +5,40 @@
 use Rattle.std.specs.Prelude.{ℕ, Bool, true, false, cond, ◌||◌, List, Some, None, Ok, Err, codes, Option, Result}
 use Rattle.rulefile.specs.declared.form.LineFault.{LineFault}
 use Rattle.rulefile.specs.declared.form.LineFault.TheVariants.{Count, Form, Gap}
+use Rattle.rulefile.specs.declared.form.EntryFault.TheVariants.{Wrong, Lone}
 use Rattle.rulefile.specs.Forms.{ItemForm, symbol_form, relation_form, item_form, nonterminal_name}
 use Rattle.rulefile.specs.Parts.{values, seven_values, under}
-use Rattle.rulefile.specs.Rows.{Written, Several, one, two, three, Line}
+use Rattle.rulefile.specs.Rows.{Written, Entries, Line}
+use Rattle.grammar.specs.declared.several.Several.TheVariants.{One, Two, Three}
 
 abbrev pub is_wrong : ItemForm → Bool
-is_wrong ItemForm.wrong = true
-is_wrong ItemForm.lone = false
-is_wrong ItemForm.missing = false
-is_wrong (ItemForm.given x) = false
+is_wrong (Err Wrong) = true
+is_wrong (Err Lone) = false
+is_wrong (Ok x) = false
 
 -- one item, if no third follows
-abbrev pub alone : Written → ItemForm → Option Several
-alone x ItemForm.wrong = None
-alone x ItemForm.lone = None
-alone x ItemForm.missing = Some (one x)
-alone x (ItemForm.given z) = None
+abbrev pub alone : Written → ItemForm → Option Entries
+alone x (Err f) = None
+alone x (Ok None) = Some (One x)
+alone x (Ok (Some z)) = None
 
 -- two items, and a third if there is one
-abbrev pub with_third : Written → Written → ItemForm → Option Several
-with_third x y ItemForm.wrong = None
-with_third x y ItemForm.lone = None
-with_third x y ItemForm.missing = Some (two x y)
-with_third x y (ItemForm.given z) = Some (three x y z)
+abbrev pub with_third : Written → Written → ItemForm → Option Entries
+with_third x y (Err f) = None
+with_third x y (Ok None) = Some (Two x y)
+with_third x y (Ok (Some z)) = Some (Three x y z)
 
-abbrev pub with_second : Written → ItemForm → ItemForm → Option Several
-with_second x ItemForm.wrong c = None
-with_second x ItemForm.lone c = None
-with_second x ItemForm.missing c = alone x c
-with_second x (ItemForm.given y) c = with_third x y c
+abbrev pub with_second : Written → ItemForm → ItemForm → Option Entries
+with_second x (Err f) c = None
+with_second x (Ok None) c = alone x c
+with_second x (Ok (Some y)) c = with_third x y c
 
-abbrev pub items_from : ItemForm → ItemForm → ItemForm → Option Several
-items_from ItemForm.wrong b c = None
-items_from ItemForm.lone b c = None
-items_from ItemForm.missing b c = None
-items_from (ItemForm.given x) b c = with_second x b c
+abbrev pub items_from : ItemForm → ItemForm → ItemForm → Option Entries
+items_from (Err f) b c = None
+items_from (Ok None) b c = None
+items_from (Ok (Some x)) b c = with_second x b c
 
-abbrev pub row_with : List ℕ → Option Several → Result Line LineFault
+abbrev pub row_with : List ℕ → Option Entries → Result Line LineFault
 row_with w None = Err Gap
 row_with w (Some s) = Ok (record { left = w; items = s })
 

@@ -1,17 +1,18 @@
 -- A line of a rule file as it is read, and the rule that it becomes.
 --   Called        a symbol by what the file calls it: a nonterminal by its name, or a terminal
 --   Written       an item: a called symbol, a relation and a mark
---   Several       one to three items
+--   Entries       one to three items
 --   Line          a left nonterminal by its name, and its items
 --   names_in      the nonterminals of a line, from left to the last item; terminals_in, its terminals
 --   rule_by       the rule of a line, where names and terminals have their numbers from these lists
-use Rattle.std.specs.Prelude.{ℕ, Bool, List, [], ◌∷◌, ◌++◌}
+use Rattle.std.specs.Prelude.{ℕ, Bool, List, [], ◌∷◌, ◌++◌, map}
 use Rattle.columns.specs.declared.relation.Relation.{Relation}
 use Rattle.grammar.specs.declared.rule.Symbol.{Symbol}
 use Rattle.grammar.specs.declared.rule.Symbol.TheVariants as symbol
 use Rattle.grammar.specs.declared.rule.Item.{Item}
 use Rattle.grammar.specs.Model.{Items}
-use Rattle.grammar.specs.declared.several.Several.TheVariants.{One, Two, Three}
+use Rattle.grammar.specs.declared.several.Several.{Several}
+use Rattle.grammar.specs.Several.{listed, mapped}
 use Rattle.grammar.specs.declared.rule.Rule.{Rule}
 use Rattle.grammar.specs.Model.{Terminal}
 use Rattle.rulefile.specs.Denoted.{alike}
@@ -26,14 +27,12 @@ pub record Written : Type 0 where
   pub relation : Relation
   pub mark : Bool
 
-pub data Several : Type 0 where
-  one : Written → Several
-  two : Written → Written → Several
-  three : Written → Written → Written → Several
+abbrev pub Entries : Type 0
+Entries = Several Written
 
 pub record Line : Type 0 where
   pub left : List ℕ
-  pub items : Several
+  pub items : Entries
 
 abbrev pub name_of : Called → List (List ℕ)
 name_of (nonterminal w) = w ∷ []
@@ -43,10 +42,8 @@ abbrev pub terminal_of : Called → List Terminal
 terminal_of (nonterminal w) = []
 terminal_of (terminal t) = t ∷ []
 
-abbrev pub symbols : Several → List Called
-symbols (one x) = x.symbol ∷ []
-symbols (two x y) = x.symbol ∷ y.symbol ∷ []
-symbols (three x y z) = x.symbol ∷ y.symbol ∷ z.symbol ∷ []
+abbrev pub symbols : Entries → List Called
+symbols xs = map (λ x. x.symbol) (listed xs)
 
 abbrev pub names_among : List Called → List (List ℕ)
 names_among [] = []
@@ -69,10 +66,8 @@ symbol_by names terminals (terminal t) = symbol.Terminal (place (alike t) termin
 abbrev pub item_by : List (List ℕ) → List Terminal → Written → Item
 item_by names terminals x = record { symbol = symbol_by names terminals x.symbol; relation = x.relation; mark = x.mark }
 
-abbrev pub items_by : List (List ℕ) → List Terminal → Several → Items
-items_by names terminals (one x) = One (item_by names terminals x)
-items_by names terminals (two x y) = Two (item_by names terminals x) (item_by names terminals y)
-items_by names terminals (three x y z) = Three (item_by names terminals x) (item_by names terminals y) (item_by names terminals z)
+abbrev pub items_by : List (List ℕ) → List Terminal → Entries → Items
+items_by names terminals = mapped (item_by names terminals)
 
 abbrev pub rule_by : List (List ℕ) → List Terminal → Line → Rule
 rule_by names terminals l = record { left = place (same_name l.left) names; items = items_by names terminals l.items }

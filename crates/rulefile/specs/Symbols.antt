@@ -1,5 +1,5 @@
 -- Symbols get their numbers one behind another.
-use Rattle.std.specs.Prelude.{◌≡◌, ℕ, true, not, List, [], ◌∷◌, ◌++◌, length, Some, nat_lt, refl}
+use Rattle.std.specs.Prelude.{◌≡◌, ℕ, true, not, List, [], ◌∷◌, ◌++◌, length, Some, None, Option, nat_lt, refl}
 use Rattle.std.proofs.Common.{sym, ap, ◌∙◌, inl, inr, arith}
 use Rattle.std.proofs.lemmas.Slice.Eq.{bytes_eq-Decides}
 use Rattle.std.proofs.lemmas.List.{append_assoc}
@@ -8,14 +8,15 @@ use Rattle.std.proofs.lemmas.List.Sums.{prefix_len-le-length}
 use Rattle.pieces.specs.declared.piece.Class.TheVariants.{Name, Number, Quote, Sign}
 use Rattle.grammar.specs.declared.rule.Symbol.TheVariants as symbol
 use Rattle.grammar.specs.Model.{Terminal, class, word}
-use Rattle.rulefile.specs.declared.table.Names.{Names}
+use Rattle.arrayvec.specs.ArrayVec.{ArrayVec}
+use Rattle.rulefile.specs.declared.spelling.Spelling.{Spelling}
 use Rattle.rulefile.specs.declared.table.Terminals.{Terminals}
 use Rattle.rulefile.specs.declared.table.Table.{Table}
 use Rattle.rulefile.specs.Denoted.{alike}
-use Rattle.rulefile.specs.Places.{place, with_new, gathered, same_name}
+use Rattle.rulefile.specs.Places.{place, with_new, gathered, Numbers, same_name}
 use Rattle.rulefile.specs.Rows.{Called, nonterminal, terminal, symbol_by, name_of, terminal_of, names_among, terminals_among}
 use Rattle.rulefile.specs.Tables.{names, terminals}
-use Rattle.rulefile.specs.Views.{Oversize, Full, Gives}
+use Rattle.rulefile.specs.Views.{Oversize, Full, Gives, GivesName}
 use Rattle.rulefile.specs.Gathering.{gathered-append, grows, settled}
 
 pub same_name_itself : (w : List ℕ) → same_name w w ≡ true
@@ -107,18 +108,18 @@ left-numbered t u w k is new same rules = (
   rules,
 )
 
-pub name-numbered : (t u : Table) (w : List ℕ) (k : ℕ) → k ≡ place (same_name w) (names t.names)
-    → names u.names ≡ with_new same_name (names t.names) w → u.terminals ≡ t.terminals → u.rules ≡ t.rules
-    → Gives (nonterminal w ∷ []) (λ ns ts. symbol_by ns ts (nonterminal w)) t (Some (symbol.Nonterminal k)) u
-name-numbered t u w k is new same rules =
-    let g = left-numbered t u w k is new same rules in
-    (g.0, g.1, λ ns ts. ap symbol.Nonterminal (g.2 ns ts), g.3)
+pub name-gives : (t u : Table) (w : List ℕ) (o : Option ℕ) → Numbers same_name 16 (names t.names) w o (names u.names)
+    → u.terminals ≡ t.terminals → u.rules ≡ t.rules → GivesName w t o u
+name-gives t u w (Some k) h same rules = left-numbered t u w k h.0 h.1 same rules
+name-gives t u w None h same rules =
+    or_left (nat_lt 16 (length (with_new same_name (names t.names) w))) (nat_lt 32 (length (terminals t.terminals)))
+    (lt-ltb 16 (length (with_new same_name (names t.names) w)) h)
 
 pub terminal-numbered : (t u : Table) (w : Terminal) (k : ℕ) → k ≡ place (alike w) (terminals t.terminals)
     → terminals u.terminals ≡ with_new alike (terminals t.terminals) w → u.names ≡ t.names → u.rules ≡ t.rules
     → Gives (terminal w ∷ []) (λ ns ts. symbol_by ns ts (terminal w)) t (Some (symbol.Terminal k)) u
 terminal-numbered t u w k is new same rules = (
-  ap (λ (x : Names). names x) same,
+  ap (λ (x : ArrayVec Spelling). names x) same,
   new,
   λ ns ts.
       let s = settled alike (terminals t.terminals) w ts (alike_itself w)

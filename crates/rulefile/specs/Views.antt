@@ -2,7 +2,8 @@
 --   called, written, several, line   a mention, an entry, entries and a row as the file has them
 --   Oversize   more than 16 names or more than 32 terminals
 --   Full       there is no room in a table for some symbols
---   Gives      symbols got their numbers in a table; so for one symbol, one item and the items of a line
+--   Gives      symbols got their numbers in a table
+--   GivesName, GivesSymbol, GivesItem, GivesItems   so for one name, one symbol, one item and the items of a line
 --   Adds       a line was added to a table; none, if there is no room for it
 use Rattle.std.specs.Prelude.{◌≡◌, ℕ, ◌+◌, true, ◌||◌, List, [], ◌∷◌, ◌++◌, length, Some, None, Option, nat_lt}
 use Rattle.grammar.specs.declared.rule.Symbol.{Symbol}
@@ -12,14 +13,14 @@ use Rattle.grammar.specs.Model.{Terminal}
 use Rattle.rulefile.specs.declared.row.Mention.{Mention}
 use Rattle.rulefile.specs.declared.row.Mention.TheVariants as mention
 use Rattle.rulefile.specs.declared.row.Entry.{Entry}
-use Rattle.rulefile.specs.declared.row.Entries.{Entries}
-use Rattle.rulefile.specs.declared.row.Entries.TheVariants as entries
+use Rattle.grammar.specs.declared.several.Several.{Several}
+use Rattle.grammar.specs.Several.{mapped}
 use Rattle.rulefile.specs.declared.row.Row.{Row}
 use Rattle.rulefile.specs.declared.table.Table.{Table}
 use Rattle.rulefile.specs.Spelled.{spelled}
 use Rattle.rulefile.specs.Denoted.{denoted, alike}
-use Rattle.rulefile.specs.Places.{gathered, same_name}
-use Rattle.rulefile.specs.Rows.{Called, nonterminal, terminal, Written, Several, one, two, three, Line, symbols}
+use Rattle.rulefile.specs.Places.{place, gathered, same_name}
+use Rattle.rulefile.specs.Rows.{Called, nonterminal, terminal, Written, Entries, Line, symbols}
 use Rattle.rulefile.specs.Rows.{names_among, terminals_among, names_in, terminals_in, symbol_by, item_by, items_by, rule_by}
 use Rattle.rulefile.specs.Tables.{names, terminals, rules}
 
@@ -30,10 +31,8 @@ called (mention.Terminal t) = terminal (denoted t)
 abbrev pub written : Entry → Written
 written e = record { symbol = called e.symbol; relation = e.relation; mark = e.mark }
 
-abbrev pub several : Entries → Several
-several (entries.One x) = one (written x)
-several (entries.Two x y) = two (written x) (written y)
-several (entries.Three x y z) = three (written x) (written y) (written z)
+abbrev pub several : Several Entry → Entries
+several = mapped written
 
 abbrev pub line : Row → Line
 line r = record { left = spelled r.left; items = several r.entries }
@@ -57,13 +56,16 @@ Gives ss by t (Some x) u =
     × (u.rules ≡ t.rules)
 Gives ss by t None u = Full ss t
 
+abbrev pub GivesName : List ℕ → Table → Option ℕ → Table → Type 0
+GivesName w = Gives (nonterminal w ∷ []) (λ ns ts. place (same_name w) ns)
+
 abbrev pub GivesSymbol : Called → Table → Option Symbol → Table → Type 0
 GivesSymbol s = Gives (s ∷ []) (λ ns ts. symbol_by ns ts s)
 
 abbrev pub GivesItem : Written → Table → Option Item → Table → Type 0
 GivesItem x = Gives (x.symbol ∷ []) (λ ns ts. item_by ns ts x)
 
-abbrev pub GivesItems : Several → Table → Option Items → Table → Type 0
+abbrev pub GivesItems : Entries → Table → Option Items → Table → Type 0
 GivesItems xs = Gives (symbols xs) (λ ns ts. items_by ns ts xs)
 
 -- a line was added to a table; what its rule is stays right however many more symbols come

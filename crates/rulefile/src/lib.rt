@@ -3,15 +3,16 @@
 #![tactic(auto)]
 
 mod adding;
-mod building;
+mod display;
 pub(crate) mod form;
 mod forms;
+pub(crate) mod header;
 mod lines;
 pub mod load;
 pub mod loaded;
 pub mod loaded_grammar;
-mod names;
 mod numbering;
+mod numbers;
 mod parts;
 pub(crate) mod row;
 mod rows;

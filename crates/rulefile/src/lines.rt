@@ -1,65 +1,49 @@
 ghost use Rattle.std.specs.Prelude.{◌≡◌, ◌≤◌, map, length};
 ghost use Rattle.std.specs.List.{list_all};
-ghost use Rattle.rulefile.specs.Loaded.{allowed, same_fault, fails, line_with};
+ghost use Rattle.rulefile.specs.Built.{Built};
+ghost use Rattle.rulefile.specs.Loaded.{allowed, fails, line_with, read};
 ghost use Rattle.rulefile.specs.Parts.{parts};
 ghost use Rattle.rulefile.specs.Reading.{row_of};
 
 use crate::form::LineFault;
-use crate::{parts, rows};
-
-fn is_allowed(byte: u8) -> bool
-    ensures { result ≡ allowed byte }
-{
-    matches!(byte, b'\n' | b' '..=b'~')
-}
+use crate::header::Header;
+use crate::parts;
+use crate::table::Table;
 
 // Whether a file has only allowed bytes.
 pub(crate) fn all_allowed(file: &[u8]) -> bool
     ensures { result ≡ list_all allowed file.now }
 {
-    for byte in file {
-        if !is_allowed(*byte) {
-            return false;
-        }
-    }
-    true
+    file.iter().all(|byte| matches!(byte, b'\n' | b' '..=b'~'))
 }
 
-impl LineFault {
-    fn is(self, found: LineFault) -> bool
-        ensures { result ≡ same_fault self found }
+impl Header<'_> {
+    // Whether a line has this fault.
+    fn fails(&self, fault: LineFault, line: &[u8]) -> bool
+        ensures { result ≡ fails fault (row_of self.now.names.now line.now) }
     {
-        match self {
-            LineFault::Count => matches!(found, LineFault::Count),
-            LineFault::Form => matches!(found, LineFault::Form),
-            LineFault::Gap => matches!(found, LineFault::Gap),
-        }
-    }
-
-    // Whether a line has this fault under the names of the first line.
-    fn fails(self, first: &[u8], line: &[u8]) -> bool
-        ensures { result ≡ fails self (row_of first.now line.now) }
-    {
-        match rows::read_row(first, line) {
-            Ok(_) => false,
-            Err(found) => self.is(found),
-        }
+        self.row(line).is_err_and(|found| found == fault)
     }
 
     // The number of the first line that has this fault; the lines begin with number 2.
-    pub(crate) fn line(self, first: &[u8], lines: &[u8]) -> Option<u16>
+    pub(crate) fn line_with(&self, fault: LineFault, lines: &[u8]) -> Option<u16>
         requires { length lines.now ≤ 4096 }
-        ensures { result ≡ line_with self 2 (map (row_of first.now) (parts 10 lines.now)) }
+        ensures { result ≡ line_with fault 2 (map (row_of self.now.names.now) (parts 10 lines.now)) }
     {
-        let mut number = 2;
-        let mut rest = lines;
-        while let Some((line, behind)) = parts::first_part(rest, b'\n') {
-            if self.fails(first, line) {
-                return Some(number);
+        let at = parts::lines(lines).position(|line| self.fails(fault, line))?;
+        Some(at as u16 + 2)
+    }
+
+    // The tables of the lines that are rules; none if there are too many names, terminals or rules.
+    pub(crate) fn build(&self, lines: &[u8]) -> Option<Table>
+        ensures { Built (read (map (row_of self.now.names.now) (parts 10 lines.now))) result }
+    {
+        let mut table = Table::default();
+        for line in parts::lines(lines) {
+            if let Ok(row) = self.row(line) {
+                table.add(row)?;
             }
-            number += 1;
-            rest = behind;
         }
-        None
+        Some(table)
     }
 }

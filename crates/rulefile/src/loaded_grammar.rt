@@ -20,19 +20,20 @@ impl Grammar for LoadedGrammar {
     ghost lawful = { λ g. Lawfulness.lawful g };
 
     fn nonterminals(&self) -> u8 {
-        self.table.names.count as u8
+        self.table.names.len() as u8
     }
 
     fn terminals(&self) -> u8 {
-        self.table.terminals.count as u8
+        self.table.terminals.as_slice().len() as u8
     }
 
     fn rules(&self) -> u8 {
-        self.table.rules.count as u8
+        self.table.rules.len() as u8
     }
 
     fn rule(&self, number: u8) -> Option<Rule> {
-        self.table.rules.as_slice().get(number as usize).copied()
+        let rules = self.table.rules.as_slice();
+        rules.get(number as usize).copied()
     }
 
     fn terminal(&self, bytes: &[u8]) -> Option<u8> {

@@ -1,16 +1,27 @@
-ghost use Rattle.rulefile.specs.Views.{called, written, several, GivesSymbol, GivesItem, GivesItems};
+ghost use Rattle.rulefile.specs.Spelled.{spelled};
+ghost use Rattle.rulefile.specs.Views.{called, written, several, GivesName, GivesSymbol, GivesItem, GivesItems};
 
+use crate::numbers;
 use crate::row::{Entries, Entry, Mention};
+use crate::spelling::Spelling;
 use crate::table::Table;
 use grammar::rule::{Item, Items, Symbol};
 
+// None where there is no room; there is nothing else to say of it.
 impl Table {
+    // The number of the nonterminal with that name; none if there is no room for it.
+    pub(crate) fn nonterminal(&mut self, name: Spelling) -> Option<u8>
+        ensures { GivesName (spelled name) self.old result self.new }
+    {
+        numbers::number(&mut self.names, name)
+    }
+
     // A mentioned symbol by its number; none if there is no room for it.
     fn symbol(&mut self, symbol: Mention) -> Option<Symbol>
         ensures { GivesSymbol (called symbol) self.old result self.new }
     {
         match symbol {
-            Mention::Nonterminal(name) => Some(Symbol::Nonterminal(self.names.number(name)?)),
+            Mention::Nonterminal(name) => Some(Symbol::Nonterminal(self.nonterminal(name)?)),
             Mention::Terminal(terminal) => Some(Symbol::Terminal(self.terminals.number(terminal)?)),
         }
     }
@@ -28,6 +39,7 @@ impl Table {
     }
 
     // The items of a line, numbered from the first to the last.
+    // By cases, since each item changes the tables, and a closure that does so needs clauses of its own.
     pub(crate) fn items(&mut self, entries: Entries) -> Option<Items>
         ensures { GivesItems (several entries) self.old result self.new }
     {

@@ -1,18 +1,13 @@
-ghost use Rattle.std.specs.Prelude.{◌≡◌, ◌≤◌, [], length, MatchOption};
-ghost use Rattle.std.specs.List.{prefix_len};
-ghost use Rattle.rulefile.specs.Parts.{Splits, other, values, seven_values, seven_names, among, under, ends_with};
+ghost use Rattle.std.specs.Prelude.{◌≡◌, [], length, MatchOption};
+ghost use Rattle.std.specs.Iterator.{YieldsFirstRef, item_count};
+ghost use Rattle.std.specs.List.{list_all};
+ghost use Rattle.rulefile.specs.Parts.{Splits, parts, filled, values, ends_with, seven_values, seven_names, among};
 
-// How many bytes stand before the first separator.
-fn run_length(bytes: &[u8], separator: u8) -> usize
-    ensures is { result ≡ prefix_len (other separator) bytes.now }
-    ensures within { result ≤ length bytes.now }
-{
-    for (i, byte) in bytes.iter().enumerate() {
-        if *byte == separator {
-            return i;
-        }
-    }
-    bytes.len()
+// The parts of some bytes that are left: what ends at a separator, or at the end unless nothing is left there.
+#[derive(Drop)]
+pub(crate) struct Parts<'a> {
+    rest: &'a [u8],
+    separator: u8,
 }
 
 // The first part of some bytes, and what stands behind its separator; none if there are no bytes.
@@ -22,79 +17,89 @@ pub(crate) fn first_part(bytes: &[u8], separator: u8) -> Option<(&[u8], &[u8])>
     if bytes.is_empty() {
         return None;
     }
-    let end = run_length(bytes, separator);
-    let behind = if end < bytes.len() { end + 1 } else { end };
-    Some((&bytes[0..end], &bytes[behind..]))
+    match bytes.iter().position(|byte| *byte == separator) {
+        Some(end) => Some((&bytes[..end], &bytes[end + 1..])),
+        None => Some((bytes, &[])),
+    }
+}
+
+impl<'a> Iterator for Parts<'a> {
+    type Item = &'a [u8];
+
+    ghost next_gives = { YieldsFirstRef (λ p. parts p.separator p.rest.now) };
+
+    ghost remaining = { item_count (λ p. parts p.separator p.rest.now) };
+
+    fn next(&mut self) -> Option<&'a [u8]> {
+        let (part, behind) = first_part(self.rest, self.separator)?;
+        self.rest = behind;
+        Some(part)
+    }
+}
+
+// The lines of a file.
+pub(crate) fn lines(file: &[u8]) -> Parts<'_>
+    ensures rest { result.rest.now ≡ file.now }
+    ensures separator { result.separator ≡ 10 }
+{
+    Parts {
+        rest: file,
+        separator: b'\n',
+    }
+}
+
+// The values of a line.
+pub(crate) fn values(line: &[u8]) -> Parts<'_>
+    ensures rest { result.rest.now ≡ line.now }
+    ensures separator { result.separator ≡ 32 }
+{
+    Parts {
+        rest: line,
+        separator: b' ',
+    }
+}
+
+// Whether no value of a line is empty.
+fn are_filled(line: &[u8]) -> bool
+    ensures { result ≡ list_all filled (values line.now) }
+{
+    values(line).all(|value| !value.is_empty())
+}
+
+fn count_values(line: &[u8]) -> usize
+    ensures { result ≡ length (values line.now) }
+{
+    values(line).count()
+}
+
+fn ends_with_space(line: &[u8]) -> bool
+    ensures { result ≡ ends_with 32 line.now }
+{
+    matches!(line, [.., b' '])
 }
 
 // Whether a line is seven values with single spaces.
 pub(crate) fn has_seven_values(line: &[u8]) -> bool
     ensures { result ≡ seven_values line.now }
 {
-    let mut count: usize = 0;
-    let mut rest = line;
-    while let Some((value, behind)) = first_part(rest, b' ') {
-        if value.is_empty() {
-            return false;
-        }
-        count += 1;
-        rest = behind;
-    }
-    count == 7 && !ends_with_space(line)
-}
-
-fn ends_with_space(line: &[u8]) -> bool
-    ensures { result ≡ ends_with 32 line.now }
-{
-    match line {
-        [] => false,
-        [.., last] => *last == b' ',
-    }
+    are_filled(line) && count_values(line) == 7 && !ends_with_space(line)
 }
 
 // Whether a name is among the values of a line.
 fn has_value(line: &[u8], name: &[u8]) -> bool
     ensures { result ≡ among (values line.now) name.now }
 {
-    let mut rest = line;
-    while let Some((value, behind)) = first_part(rest, b' ') {
-        if value == name {
-            return true;
-        }
-        rest = behind;
-    }
-    false
+    values(line).any(|value| value == name)
 }
 
-// The value of a line that stands under a name of the first line; no bytes if there is none.
-pub(crate) fn value_under<'a>(name: &[u8], first: &[u8], line: &'a [u8]) -> &'a [u8]
-    ensures { result.now ≡ under name.now (values first.now) (values line.now) }
-{
-    let mut names = first;
-    let mut rest = line;
-    while let Some((own, other_names)) = first_part(names, b' ') {
-        let Some((value, behind)) = first_part(rest, b' ') else {
-            return &line[0..0];
-        };
-        if own == name {
-            return value;
-        }
-        names = other_names;
-        rest = behind;
-    }
-    &line[0..0]
-}
+// The names of the columns.
+const NAMES: [&[u8]; 7] = [
+    b"left", b"sym1", b"rel1", b"sym2", b"rel2", b"sym3", b"rel3",
+];
 
 // Whether a line is the seven names, each once, with single spaces.
 pub(crate) fn has_seven_names(line: &[u8]) -> bool
     ensures { result ≡ seven_names line.now }
 {
-    has_seven_values(line)
-        && has_value(line, b"left")
-        && has_value(line, b"sym1")
-        && has_value(line, b"rel1")
-        && has_value(line, b"sym2")
-        && has_value(line, b"rel2")
-        && has_value(line, b"sym3")
-        && has_value(line, b"rel3")
+    has_seven_values(line) && NAMES.iter().all(|name| has_value(line, name))
 }

@@ -1,8 +1,9 @@
 use crate::word::Word;
 
 // A terminal of a rule file: a class of pieces, or a word.
-#[derive(Clone, Copy)]
+#[derive(Clone, Copy, Default, PartialEq)]
 pub enum Terminal {
+    #[default]
     Name,
     Number,
     Quote,

@@ -4,7 +4,7 @@ ghost use Rattle.rulefile.specs.Spelled.{spelled, formed};
 use crate::spelling::Spelling;
 
 // A spelling that is one name or one sign.
-#[derive(Clone, Copy)]
+#[derive(Clone, Copy, PartialEq)]
 pub struct Word {
     pub(crate) spelling: Spelling,
     ghost one: { formed (spelled spelling) ≡ true },

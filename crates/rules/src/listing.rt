@@ -1,10 +1,8 @@
-use columns::relation::Relation;
 use faults::fault::Fault;
 use grammar::grammar::Grammar;
 use grammar::rule::{Item, Rule, Symbol};
 use rulefile::loaded::LoadedGrammar;
-use rulefile::spelling::Spelling;
-use rulefile::terminal::Terminal;
+use std::fmt::Display;
 use std::io;
 
 // A fault as one line.
@@ -12,88 +10,67 @@ pub(crate) fn print_fault(rt: &HostRuntime, fault: Fault) -> io::Result<()> {
     println!(rt; "{fault}")
 }
 
-// The counts, then a line for each terminal and each rule, by number.
-pub(crate) fn print_grammar(rt: &HostRuntime, grammar: &LoadedGrammar) -> io::Result<()> {
-    println!(rt; "nonterminals {}", grammar.nonterminals())?;
-    println!(rt; "terminals {}", grammar.terminals())?;
-    println!(rt; "rules {}", grammar.rules())?;
-    for number in 0..grammar.terminals() {
-        print!(rt; "terminal ")?;
-        print_symbol(rt, grammar, Symbol::Terminal(number))?;
-        println!(rt; "")?;
-    }
-    for number in 0..grammar.rules() {
-        if let Some(rule) = grammar.rule(number) {
-            print!(rt; "rule {number}: ")?;
-            print_rule(rt, grammar, rule)?;
+// A grammar to be printed.
+#[derive(Clone, Copy)]
+pub(crate) struct Listing<'a> {
+    pub(crate) rt: &'a HostRuntime,
+    pub(crate) grammar: &'a LoadedGrammar,
+}
+
+impl Listing<'_> {
+    // The counts, then a line for each terminal and each rule, by number.
+    pub(crate) fn print(&self) -> io::Result<()> {
+        println!(self.rt; "nonterminals {}", self.grammar.nonterminals())?;
+        println!(self.rt; "terminals {}", self.grammar.terminals())?;
+        println!(self.rt; "rules {}", self.grammar.rules())?;
+        for number in 0..self.grammar.terminals() {
+            print!(self.rt; "terminal ")?;
+            self.print_symbol(Symbol::Terminal(number))?;
+            println!(self.rt; "")?;
         }
-    }
-    Ok(())
-}
-
-fn print_rule(rt: &HostRuntime, grammar: &LoadedGrammar, rule: Rule) -> io::Result<()> {
-    print_symbol(rt, grammar, Symbol::Nonterminal(rule.left))?;
-    for index in 0..rule.items.count() {
-        if let Some(item) = rule.items.get(index) {
-            print!(rt; "{} ", if index == 0 { ":" } else { "," })?;
-            print_item(rt, grammar, item)?;
-        }
-    }
-    println!(rt; "")
-}
-
-fn print_item(rt: &HostRuntime, grammar: &LoadedGrammar, item: Item) -> io::Result<()> {
-    print_symbol(rt, grammar, item.symbol)?;
-    let relation = relation_text(item.relation);
-    let mark = if item.mark { "!" } else { "" };
-    print!(rt; " {relation}{mark}")
-}
-
-fn relation_text(relation: Relation) -> &'static str {
-    match relation {
-        Relation::Equal => "=",
-        Relation::Above => ">",
-        Relation::AtLeast => ">=",
-        Relation::Any => "*",
-    }
-}
-
-// A symbol's number, and beside it what the file calls it.
-fn print_symbol(rt: &HostRuntime, grammar: &LoadedGrammar, symbol: Symbol) -> io::Result<()> {
-    match symbol {
-        Symbol::Nonterminal(number) => {
-            print!(rt; "{number} ")?;
-            match grammar.nonterminal_name(number) {
-                Some(name) => print_spelling(rt, &name),
-                None => Ok(()),
+        for number in 0..self.grammar.rules() {
+            if let Some(rule) = self.grammar.rule(number) {
+                print!(self.rt; "rule {number}: ")?;
+                self.print_rule(rule)?;
             }
         }
-        Symbol::Terminal(number) => {
-            print!(rt; "{number} ")?;
-            match grammar.terminal_text(number) {
-                Some(terminal) => print_terminal(rt, terminal),
-                None => Ok(()),
+        Ok(())
+    }
+
+    fn print_rule(&self, rule: Rule) -> io::Result<()> {
+        self.print_symbol(Symbol::Nonterminal(rule.left))?;
+        // By place, as a rule tells its items.
+        let items = (0..rule.items.count()).filter_map(|index| rule.items.get(index));
+        for (sign, item) in [":", ",", ","].into_iter().zip(items) {
+            print!(self.rt; "{sign} ")?;
+            self.print_item(item)?;
+        }
+        println!(self.rt; "")
+    }
+
+    fn print_item(&self, item: Item) -> io::Result<()> {
+        self.print_symbol(item.symbol)?;
+        let mark = if item.mark { "!" } else { "" };
+        print!(self.rt; " {}{mark}", item.relation)
+    }
+
+    // A number, and beside it what the file calls it.
+    fn print_named<N: Display + Drop>(&self, number: u8, name: Option<N>) -> io::Result<()> {
+        print!(self.rt; "{number} ")?;
+        match name {
+            Some(name) => print!(self.rt; "{name}"),
+            None => Ok(()),
+        }
+    }
+
+    fn print_symbol(&self, symbol: Symbol) -> io::Result<()> {
+        match symbol {
+            Symbol::Nonterminal(number) => {
+                self.print_named(number, self.grammar.nonterminal_name(number))
+            }
+            Symbol::Terminal(number) => {
+                self.print_named(number, self.grammar.terminal_text(number))
             }
         }
-    }
-}
-
-fn print_terminal(rt: &HostRuntime, terminal: Terminal) -> io::Result<()> {
-    match terminal {
-        Terminal::Name => print!(rt; "name"),
-        Terminal::Number => print!(rt; "number"),
-        Terminal::Quote => print!(rt; "quote"),
-        Terminal::Word(word) => {
-            print!(rt; "'")?;
-            print_spelling(rt, &word.spelling())?;
-            print!(rt; "'")
-        }
-    }
-}
-
-fn print_spelling(rt: &HostRuntime, spelling: &Spelling) -> io::Result<()> {
-    match std::str::from_utf8(spelling.as_slice()) {
-        Ok(text) => print!(rt; "{text}"),
-        Err(_) => Ok(()),
     }
 }

@@ -2,46 +2,33 @@
 
 #![tactic(auto)]
 
-mod input;
 mod listing;
 
+use listing::Listing;
 use rulefile::loaded::LoadedGrammar;
 use std::io;
+use std::io::Read;
 use std::process::ExitCode;
 
-// Why the program ends with status 1.
-#[derive(Drop)]
-enum Stop {
-    Refused,
-    Failed(io::Error),
-}
+// One byte more than the longest rule file that is accepted.
+const LIMIT: u64 = 4097;
 
-impl From<io::Error> for Stop {
-    fn from(error: io::Error) -> Stop {
-        Stop::Failed(error)
-    }
-}
-
+// Prints what the rule file means, or why it is refused, with exit status 1.
 fn main(rt: HostRuntime) -> io::Result<ExitCode> {
-    match show(&rt) {
-        Ok(()) => Ok(ExitCode::SUCCESS),
-        Err(Stop::Refused) => Ok(ExitCode::FAILURE),
-        Err(Stop::Failed(error)) => Err(error),
-    }
-}
-
-// Prints what the rule file means, or why it is refused.
-fn show(rt: &HostRuntime) -> Result<(), Stop> {
-    let mut file = [0; 4097];
-    let length = input::read_up_to(rt, &mut file)?;
-    match LoadedGrammar::load(&file[0..length]) {
+    let mut file = Vec::new(rt.alloc());
+    rt.stdin().take(LIMIT).read_to_end(&mut file)?;
+    match LoadedGrammar::load(file.as_slice()) {
         Ok(grammar) => {
-            listing::print_grammar(rt, &grammar)?;
-            Ok(())
+            let listing = Listing {
+                rt: &rt,
+                grammar: &grammar,
+            };
+            listing.print()?;
+            Ok(ExitCode::SUCCESS)
         }
         Err(fault) => {
-            listing::print_fault(rt, fault)?;
-            Err(Stop::Refused)
+            listing::print_fault(&rt, fault)?;
+            Ok(ExitCode::FAILURE)
         }
     }
 }

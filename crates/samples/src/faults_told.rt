@@ -33,8 +33,8 @@ fn tells_what_and_where(rt: HostRuntime) -> Result<(), Fail> {
 
 // A name on every line.
 fn write_names(text: &mut [u8]) {
-    for i in 0..text.len() {
-        text[i] = if i % 2 == 0 { b'x' } else { b'\n' };
+    for (i, byte) in text.iter_mut().enumerate() {
+        *byte = if i % 2 == 0 { b'x' } else { b'\n' };
     }
 }
 

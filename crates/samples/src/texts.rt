@@ -7,19 +7,15 @@ use std::test::Fail;
 #[test]
 fn lays_by_policy(rt: HostRuntime) -> Result<(), Fail> {
     let text = b"loop 3 :\n  feed 5\nspeed 2\n";
-    match Step::new(4) {
-        Ok(step) => lays(&rt, &step, text, b"loop 3 :\n    feed 5\nspeed 2\n")?,
-        Err(_) => return Err(Fail::new("no step")),
-    }
+    let step = Step::new(4).map_err(|_| Fail::new("no step"))?;
+    lays(&rt, &step, text, b"loop 3 :\n    feed 5\nspeed 2\n")?;
     lays(&rt, &Minimal, text, b"loop 3 :\n feed 5\nspeed 2\n")?;
     lays(&rt, &Hanging, text, b"loop 3 : feed 5\nspeed 2\n")
 }
 
 #[test]
 fn nests_seven_deep(rt: HostRuntime) -> Result<(), Fail> {
-    let Ok(step) = Step::new(8) else {
-        return Err(Fail::new("no step"));
-    };
+    let step = Step::new(8).map_err(|_| Fail::new("no step"))?;
     let eight =
         b"loop 1 :\n loop 1 :\n  loop 1 :\n   loop 1 :\n    loop 1 :\n     loop 1 :\n      loop 1 :\n       loop 1 :\n        feed";
     too_deep(&rt, &step, eight, (4, 1))?;

@@ -1,13 +1,15 @@
 -- Counting over nodes, one by one.
-use Rattle.std.proofs.Common.{◌≡◌, ℕ, zero, suc, ◌+◌, ◌-◌, ◌<◌, ◌≤◌, Bool, true, false, cond, leb, List, [], ◌∷◌, length, get_or, take, drop, refl, ap, subst, arith}
-use Rattle.std.proofs.lemmas.List.{at_drop_more}
+use Rattle.std.proofs.Common.{◌≡◌, ℕ, zero, suc, ◌+◌, ◌-◌, ◌≤◌, Bool, true, false, cond, leb, List, [], ◌∷◌, ◌++◌, length, take, drop}
+use Rattle.std.proofs.Common.{sym, refl, ap, ◌∙◌, subst, arith}
+use Rattle.std.specs.List.{fold, sum_by}
+use Rattle.std.proofs.lemmas.List.{append_assoc, length-append, take-append-drop}
 use Rattle.grammar.specs.declared.rule.Child.{Child}
 use Rattle.grammar.specs.declared.rule.Child.TheVariants.{Piece, Node}
 use Rattle.tree.specs.declared.node.Node.{Node as NodeRecord}
 use Rattle.grammar.specs.declared.several.Several.TheVariants.{One}
 use Rattle.shape.specs.declared.count.Path.{Path}
 use Rattle.shape.specs.Children.{under, kids, leaves, pieces_in, closes}
-use Rattle.shape.specs.Counted.{pieces_before, widened, path, span}
+use Rattle.shape.specs.Counted.{pieces_before, path, span}
 
 -- what stands for a node past the end
 abbrev pub blank : NodeRecord
@@ -34,22 +36,9 @@ path-few (n ∷ ns) =
     (pieces_before p.trees (under n)) (before-few p.trees (under n)) in
     (omega arith, omega arith)
 
-pub path_more : (ns : List NodeRecord) (i : ℕ) (d : NodeRecord) → i < length ns
-    → path (drop i ns) ≡ widened (under (get_or ns i d)) (path (drop (i + 1) ns))
-path_more ns i d h = at_drop_more path ns i d h
-
-pub pieces_more : (ns : List NodeRecord) (i : ℕ) (d : NodeRecord) → i < length ns
-    → pieces_in (drop i ns) ≡ leaves (under (get_or ns i d)) + pieces_in (drop (i + 1) ns)
-pieces_more ns i d h = at_drop_more pieces_in ns i d h
-
-pub pieces-drop : (ns : List NodeRecord) (i : ℕ) → pieces_in (drop i ns) ≤ pieces_in ns
-pieces-drop ns zero = omega arith
-pieces-drop [] (suc i) = omega arith
-pieces-drop (n ∷ ns) (suc i) = let h = pieces-drop ns i in omega arith
-
 pub closes-few : (k : ℕ) (ns : List NodeRecord) → closes k ns ≡ true → k ≤ length ns
 closes-few zero ns e = omega arith
-closes-few (suc k) [] e = let z : ◌≡◌ {A = ℕ} 0 1 = cc in absurd (omega arith)
+closes-few (suc k) [] e = cc
 closes-few (suc k) (n ∷ ns) e = let h = closes-few (kids (under n) + k) ns e in omega arith
 
 pub span-step : (o : ℕ) (n : NodeRecord) (ns : List NodeRecord) → (o ≡ 0 → ⊥)
@@ -71,7 +60,51 @@ pub span_zero : (ns : List NodeRecord) → span 0 ns ≡ 0
 span_zero [] = refl
 span_zero (n ∷ ns) = refl
 
+pub pieces-append : (ms ns : List NodeRecord) → pieces_in (ms ++ ns) ≡ pieces_in ms + pieces_in ns
+pieces-append [] ns = omega arith
+pieces-append (m ∷ ms) ns = let h = pieces-append ms ns in omega arith
+
 pub pieces-take : (ns : List NodeRecord) (i : ℕ) → pieces_in (take i ns) ≤ pieces_in ns
-pieces-take ns zero = omega arith
-pieces-take [] (suc i) = omega arith
-pieces-take (n ∷ ns) (suc i) = let h = pieces-take ns i in omega arith
+pieces-take ns i =
+    let s = ap pieces_in (take-append-drop i ns) in
+    let a = pieces-append (take i ns) (drop i ns) in
+    omega arith
+
+pub pieces-drop : (ns : List NodeRecord) (i : ℕ) → pieces_in (drop i ns) ≤ pieces_in ns
+pieces-drop ns i =
+    let s = ap pieces_in (take-append-drop i ns) in
+    let a = pieces-append (take i ns) (drop i ns) in
+    omega arith
+
+-- from the back, one node more
+module _ (ns left rest seen : List NodeRecord) (n : NodeRecord) (all : ns ≡ left ++ seen) (next : left ≡ rest ++ n ∷ []) where
+  pub one_back : ns ≡ rest ++ n ∷ seen
+  one_back = all ∙ ap (λ (ms : List NodeRecord). ms ++ seen) next ∙ append_assoc rest (n ∷ []) seen
+
+  pub back-few : ((path seen).pieces ≤ pieces_in ns) × ((path seen).trees + 1 ≤ length ns)
+  back-few =
+      let f = path-few seen in
+      let p = ap pieces_in all in
+      let a = pieces-append left seen in
+      let l = ap length one_back in
+      let b = length-append rest (n ∷ seen) in
+      (omega arith, omega arith)
+
+pub none_left : (ns left seen : List NodeRecord) → ns ≡ left ++ seen → length left ≡ 0 → seen ≡ ns
+none_left ns [] seen all none = sym all
+none_left ns (n ∷ left) seen all none = absurd (omega arith)
+
+-- nothing seen yet
+abbrev seen_path : ℕ → ℕ → Path
+seen_path p t = record { pieces = p; trees = t }
+
+pub none_seen : (p : Path) → (p.pieces ≡ 0) × (p.trees ≡ 0) → p ≡ path []
+none_seen p (pieces, trees) = let e : seen_path p.pieces p.trees ≡ seen_path 0 0 = cc in e
+
+-- the pieces under nodes, added up
+sum-on : (ns : List NodeRecord) (k : ℕ) → fold (λ (a : ℕ) (n : NodeRecord). a + leaves (under n)) k ns ≡ k + pieces_in ns
+sum-on [] k = omega arith
+sum-on (n ∷ ns) k = let h = sum-on ns (k + leaves (under n)) in omega arith
+
+pub pieces_sum : (ns : List NodeRecord) → sum_by (λ (n : NodeRecord). leaves (under n)) ns ≡ pieces_in ns
+pieces_sum ns = let h = sum-on ns 0 in omega arith

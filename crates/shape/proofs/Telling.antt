@@ -1,15 +1,15 @@
 -- What is told of a node of one tree.
-use Rattle.std.proofs.Common.{◌≡◌, ℕ, suc, ◌+◌, ◌<◌, ◌≤◌, true, List, [], ◌∷◌, length, get_or, take, drop, Some, None, Option, sym, refl, ap, ◌∙◌, subst, arith}
+use Rattle.std.proofs.Common.{◌≡◌, ℕ, suc, ◌+◌, ◌<◌, ◌≤◌, true, List, [], ◌∷◌, length, take, drop, Some, None, Option, sym, refl, ap, ◌∙◌}
+use Rattle.std.proofs.Common.{subst, arith}
 use Rattle.std.specs.List.{slice_get}
 use Rattle.std.proofs.lemmas.List.{length-drop, length-take-le, take-append-drop}
-use Rattle.std.proofs.lemmas.Option.{slice_get-get_or, slice_get_past}
+use Rattle.std.proofs.lemmas.Option.{slice_get_past}
 use Rattle.tree.specs.declared.node.Node.{Node}
 use Rattle.shape.specs.declared.facts.NodeFacts.{NodeFacts}
 use Rattle.shape.specs.Children.{under, kids, pieces_in, closes, one_tree}
 use Rattle.shape.specs.Counted.{path, span}
 use Rattle.shape.specs.Shaped.{Shaped, Passes, tree}
 use Rattle.shape.specs.Told.{Told, ToldOnce}
-use Rattle.shape.proofs.Counts.{blank}
 use Rattle.shape.proofs.Trees.{shaped_of, shaped_closes, span-all, passes_first}
 use Rattle.shape.proofs.Parts.{Found, found_at, Divided, divide}
 
@@ -49,19 +49,19 @@ module _ (ns : List Node) (k : ℕ) (one : one_tree ns ≡ true) (h : k < length
   pub span-within : k + span 1 (drop k ns) ≤ length ns
   span-within = let l = length-drop k ns in omega (arith, span-is, part.within)
 
-  pub told : Told ns k (record {
-    rule = (get_or ns k blank).rule;
-    left = (get_or ns k blank).left;
+  pub told : (n : Node) → slice_get ns k ≡ Some n → Told ns k (record {
+    rule = n.rule;
+    left = n.left;
     first_piece = (path (take k ns)).pieces;
     piece_count = pieces_in (take (span 1 (drop k ns)) (drop k ns));
     node_count = span 1 (drop k ns);
   })
-  told =
+  told n is =
       let s = subst (λ (m : ℕ). Shaped tree (take m (drop k ns)) part.front) (sym span-is) part.left in
       let p : part.front ≡ pieces_in (take (span 1 (drop k ns)) (drop k ns)) = (shaped_closes s).1 ∙ omega arith in
       record {
-        node = get_or ns k blank;
-        is = slice_get-get_or ns k blank h;
+        node = n;
+        is = is;
         rule = refl;
         left = refl;
         behind = here.behind;
@@ -96,6 +96,6 @@ told_same ns k f g a b =
 
 pub told-once : ToldOnce
 told-once ns k None None a b = refl
-told-once ns k None (Some g) a b = let e = slice_get_past ns k a in let z : ◌≡◌ {A = ℕ} 0 1 = cc b.is in absurd (omega arith)
-told-once ns k (Some f) None a b = let e = slice_get_past ns k b in let z : ◌≡◌ {A = ℕ} 0 1 = cc a.is in absurd (omega arith)
+told-once ns k None (Some g) a b = let e = slice_get_past ns k a in cc b.is
+told-once ns k (Some f) None a b = let e = slice_get_past ns k b in cc a.is
 told-once ns k (Some f) (Some g) a b = ap Some (told_same ns k f g a b)

@@ -1,5 +1,6 @@
 -- Trees by node records: what closes is a tree, and a walk passes what is counted.
-use Rattle.std.proofs.Common.{◌≡◌, ℕ, zero, suc, ◌+◌, ◌-◌, ◌<◌, ◌≤◌, Bool, true, false, cond, leb, List, [], ◌∷◌, ◌++◌, length, sym, refl, ap, ◌∙◌, subst, arith}
+use Rattle.std.proofs.Common.{◌≡◌, ℕ, zero, suc, ◌+◌, ◌-◌, ◌<◌, ◌≤◌, Bool, true, false, cond, leb, List, [], ◌∷◌, ◌++◌, length, sym, refl}
+use Rattle.std.proofs.Common.{ap, ◌∙◌, subst, arith}
 use Rattle.std.proofs.lemmas.Bool.{leb-true, leb-false}
 use Rattle.grammar.specs.declared.rule.Child.{Child}
 use Rattle.grammar.specs.declared.rule.Child.TheVariants.{Piece, Node}
@@ -22,11 +23,11 @@ leaves-append (Node ∷ cs) ds = leaves-append cs ds
 -- what closes is what these children cover
 pub shaped_of : (cs : List Child) (ns : List NodeRecord) → closes (kids cs) ns ≡ true → Shaped cs ns (leaves cs + pieces_in ns)
 shaped_of [] [] e = Shaped.none
-shaped_of [] (n ∷ ns) e = let z : ◌≡◌ {A = ℕ} 0 1 = cc in absurd (omega arith)
+shaped_of [] (n ∷ ns) e = cc
 shaped_of (Piece ∷ cs) ns e =
     let q : suc (leaves cs + pieces_in ns) ≡ suc (leaves cs) + pieces_in ns = omega arith in
     subst (Shaped (Piece ∷ cs) ns) q (Shaped.piece (shaped_of cs ns e))
-shaped_of (Node ∷ cs) [] e = let z : ◌≡◌ {A = ℕ} 0 1 = cc in absurd (omega arith)
+shaped_of (Node ∷ cs) [] e = cc
 shaped_of (Node ∷ cs) (n ∷ ns) e =
     let k : closes (kids (under n ++ cs)) ns ≡ true = subst (λ (m : ℕ). closes m ns ≡ true) (sym (kids-append (under n) cs)) e in
     let l = leaves-append (under n) cs in

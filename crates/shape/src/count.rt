@@ -1,13 +1,14 @@
-ghost use Rattle.std.specs.Prelude.{◌≡◌, ℕ, ◌+◌, ◌-◌, ◌^◌, ◌<◌, ◌≤◌, true, [], ◌∷◌};
-ghost use Rattle.shape.specs.Children.{children, closes, kids, leaves, pieces_in};
-ghost use Rattle.shape.specs.Counted.{pieces_before, widened, path, span};
+ghost use Rattle.std.specs.Prelude.{◌≡◌, ℕ, ◌+◌, ◌-◌, ◌^◌, ◌<◌, ◌≤◌, true, [], ◌∷◌, sum_by};
+ghost use Rattle.shape.specs.Children.{children, closes, kids, leaves, pieces_in, under};
+ghost use Rattle.shape.specs.Counted.{Adds, pieces_before, widened, path, span};
+ghost use Rattle.grammar.specs.declared.rule.Child.{Child};
 
 use grammar::rule::Child;
 use tree::node::{Node, Shape};
 
 // What is counted from the node before a node towards the front: the pieces before that node, and the trees before it that no
 // node above them has been found for.
-#[derive(Clone, Copy)]
+#[derive(Clone, Copy, Default)]
 pub struct Path {
     pub(crate) pieces: usize,
     pub(crate) trees: usize,
@@ -23,33 +24,38 @@ fn kid(child: Child) -> usize
     }
 }
 
+// How many pieces a child is: one or none.
+fn leaf(child: Child) -> usize
+    ensures { (result ≡ leaves (child ∷ [])) × (result ≤ 1) }
+{
+    1 - kid(child)
+}
+
+// What is counted of each child of a node, one at most, added up.
+fn add_up<F: Fn(Child) -> usize>(shape: Shape, count: F) -> usize
+    requires callable { F.IsAlwaysCallable count }
+    requires few { (c : Child) (n : ℕ) → F.post count c n → n ≤ 1 }
+    ensures { Adds (F.post count) (children shape) result }
+{
+    match shape {
+        Shape::One(x) => count(x),
+        Shape::Two(x, y) => count(x) + count(y),
+        Shape::Three(x, y, z) => count(x) + count(y) + count(z),
+    }
+}
+
 // How many nodes stand directly under a node.
 fn kid_count(shape: Shape) -> usize
     ensures { (result ≡ kids (children shape)) × (result ≤ 3) }
 {
-    match shape {
-        Shape::One(x) => kid(x),
-        Shape::Two(x, y) => kid(x) + kid(y),
-        Shape::Three(x, y, z) => kid(x) + kid(y) + kid(z),
-    }
+    add_up(shape, kid)
 }
 
 // How many pieces stand directly under a node.
 fn leaf_count(shape: Shape) -> usize
     ensures { (result ≡ leaves (children shape)) × (result ≤ 3) }
 {
-    match shape {
-        Shape::One(x) => 1 - kid(x),
-        Shape::Two(x, y) => 2 - kid(x) - kid(y),
-        Shape::Three(x, y, z) => 3 - kid(x) - kid(y) - kid(z),
-    }
-}
-
-// How many pieces a child is: one or none.
-fn leaf(child: Child) -> usize
-    ensures { (result ≡ leaves (child ∷ [])) × (result ≤ 1) }
-{
-    1 - kid(child)
+    add_up(shape, leaf)
 }
 
 // How many of the pieces under a node come before its kid of that number.
@@ -92,12 +98,9 @@ pub(crate) fn count_path(nodes: &[Node]) -> Path
     requires { pieces_in nodes.now ≤ 128 }
     ensures { result ≡ path nodes.now }
 {
-    let mut so_far = Path {
-        pieces: 0,
-        trees: 0,
-    };
-    for i in (0..nodes.len()).rev() {
-        so_far = so_far.widen(nodes[i].shape);
+    let mut so_far = Path::default();
+    for node in nodes.iter().rev() {
+        so_far = so_far.widen(node.shape);
     }
     so_far
 }
@@ -108,6 +111,7 @@ pub(crate) fn count_nodes(nodes: &[Node]) -> usize
     ensures { result ≡ span 1 nodes.now }
 {
     let mut owed = 1;
+    // Its number is the answer; a `take_while` would have to change what is owed as it asks.
     for (i, node) in nodes.iter().enumerate() {
         if owed == 0 {
             return i;
@@ -119,12 +123,8 @@ pub(crate) fn count_nodes(nodes: &[Node]) -> usize
 
 // How many pieces stand directly under these nodes.
 pub(crate) fn count_pieces(nodes: &[Node]) -> usize
-    requires { pieces_in nodes.now ≤ 128 }
-    ensures { result ≡ pieces_in nodes.now }
+    requires { sum_by (λ n. leaves (under n)) nodes.now ≤ 128 }
+    ensures { result ≡ sum_by (λ n. leaves (under n)) nodes.now }
 {
-    let mut count = 0;
-    for node in nodes {
-        count += leaf_count(node.shape);
-    }
-    count
+    nodes.iter().map(|node| leaf_count(node.shape)).sum()
 }

@@ -10,16 +10,14 @@ impl Preorder<'_> {
         ensures told { Tells self.now.nodes.now number result }
         ensures once { ToldOnce }
     {
-        let nodes = self.nodes;
-        if number >= nodes.len() {
-            return None;
-        }
-        let node_count = count_nodes(&nodes[number..]);
+        let node = self.nodes.get(number)?;
+        let (before, from) = self.nodes.split_at(number);
+        let node_count = count_nodes(from);
         Some(NodeFacts {
-            rule: nodes[number].rule,
-            left: nodes[number].left,
-            first_piece: count_path(&nodes[0..number]).pieces,
-            piece_count: count_pieces(&nodes[number..number + node_count]),
+            rule: node.rule,
+            left: node.left,
+            first_piece: count_path(before).pieces,
+            piece_count: count_pieces(&from[..node_count]),
             node_count,
         })
     }

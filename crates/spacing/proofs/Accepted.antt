@@ -1,20 +1,19 @@
 -- The tokens of an accepted text are pieces by themselves.
-use Rattle.std.proofs.Common.{◌≡◌, ℕ, ◌+◌, true, false, cond, List, [], ◌∷◌, map, length, take, drop, Some, None, Option, sym, refl, ap, ◌∙◌, subst, inl, inr, arith}
-use Rattle.std.specs.List.{flat_map, AllByRecursion}
+use Rattle.std.proofs.Common.{◌≡◌, ℕ, ◌+◌, true, false, cond, List, [], ◌∷◌, length, take, drop, Some, None, Option, sym, refl, ap, ◌∙◌}
+use Rattle.std.proofs.Common.{subst, inl, inr}
+use Rattle.std.specs.List.{AllByRecursion}
 use Rattle.std.specs.Option.{option_map, option_to_list}
-use Rattle.std.proofs.ByRecursion.{All-append, All-weaker}
-use Rattle.std.proofs.lemmas.List.{take_at, drop_at, drop-drop, length-take-le, length-drop}
+use Rattle.std.proofs.ByRecursion.{All-append}
+use Rattle.std.proofs.lemmas.List.{take_at, drop_at, drop-drop}
 use Rattle.std.proofs.lemmas.Bool.Decides.{leb_tells}
 use Rattle.pieces.specs.Alone.{one_piece}
 use Rattle.pieces.specs.Pieces.{Place, Found, Reads, Cutting, Cut}
 use Rattle.grammar.specs.Model.{Model, terminal_of}
 use Rattle.text.specs.declared.token.Token.{Token}
 use Rattle.text.specs.Verdict.{accepted, out_of_bounds, token, token_with, tokens_of, verdict_on, Judged}
-use Rattle.text.proofs.Places.{Inside, accepted-inside, accepted-tokens}
-use Rattle.tree.specs.declared.piece.PieceRecord.{PieceRecord}
-use Rattle.tree.specs.Pieces.{all_one_piece}
+use Rattle.text.proofs.Places.{accepted-tokens}
+use Rattle.spacing.specs.Again.{bytes_at}
 use Rattle.spacing.proofs.Alone.{alone}
-use Rattle.spacing.proofs.Joins.{joined_alone}
 
 -- a piece's bytes stand in the text where the piece does
 abbrev pub InPlace : List ℕ → Found → Type 0
@@ -38,7 +37,7 @@ found-alone (Reads.piece {w = w} {s = s} {c = c} is f h) = (alone s c w f, found
 
 -- the bytes of a token in its text are one piece
 abbrev pub OnePiece : List ℕ → Token → Type 0
-OnePiece text t = one_piece (take t.length (drop t.start text)) ≡ true
+OnePiece text t = one_piece (bytes_at text t) ≡ true
 
 token-alone : (text : List ℕ) (x : Found) (o : Option ℕ) → InPlace text x → one_piece x.bytes ≡ true
     → AllByRecursion (OnePiece text) (option_to_list (token_with x o))
@@ -63,27 +62,13 @@ cut-alone : (G : Model) (text : List ℕ) (ts : List Token) (k : Cutting) → Cu
 cut-alone G text ts (Cutting.into ps) (q, r) e =
     let all = tokens-alone text G ps (in_place text r refl) (found-alone r) in
     subst (λ (us : List Token). AllByRecursion (OnePiece text) us) (sym (accepted-tokens G ps ts e)) all
-cut-alone G text ts (Cutting.stuck p) cut e = let z : ◌≡◌ {A = ℕ} 0 1 = cc in absurd (omega arith)
+cut-alone G text ts (Cutting.stuck p) cut e = cc
 
 pub accepted-alone : (G : Model) (text : List ℕ) (ts : List Token) → Judged G text (accepted ts)
-    → AllByRecursion (λ t. one_piece (take t.length (drop t.start text)) ≡ true) ts
+    → AllByRecursion (OnePiece text) ts
 accepted-alone G text ts j = elim (leb_tells (length text) 12288) [
   | inl p ↦ let k = j.cut p.1 in cut-alone G text ts k.0 k.1 k.2
   | inr p ↦
       let e = j.long p.1 in
-      let z : ◌≡◌ {A = ℕ} 0 1 = cc in
-      absurd (omega arith)
+      cc
 ]
-
--- the same for their bytes without gaps, with records of their lengths
-pub accepted_joined : (G : Model) (text : List ℕ) (ts : List Token) (record_of : Token → PieceRecord)
-    → ((t : Token) → (record_of t).length ≡ t.length) → Judged G text (accepted ts)
-    → all_one_piece (flat_map (λ t. take t.length (drop t.start text)) ts) (map record_of ts) ≡ true
-accepted_joined G text ts record_of same j =
-    joined_alone (λ t. take t.length (drop t.start text)) record_of ts
-    (All-weaker (Inside (length text)) (λ t. length (take t.length (drop t.start text)) ≡ (record_of t).length)
-    (λ t inside.
-    let d = length-drop t.start text in
-    length-take-le t.length (drop t.start text) (omega (arith, inside.1)) ∙ sym (same t))
-    ts (accepted-inside G text ts j))
-    (accepted-alone G text ts j)

@@ -1,5 +1,6 @@
 -- The verdict on pieces that keep the limits and are found in their columns.
-use Rattle.std.proofs.Common.{◌≡◌, ℕ, suc, ◌+◌, ◌≤◌, Bool, false, cond, not, ◌||◌, eqb, ltb, List, [], ◌∷◌, ◌++◌, length, take, drop, is_some, Some, None, Option, sym, refl, ap, ◌∙◌, subst, arith}
+use Rattle.std.proofs.Common.{◌≡◌, ℕ, suc, ◌+◌, ◌≤◌, Bool, false, cond, not, ◌||◌, eqb, ltb, List, [], ◌∷◌, ◌++◌, length, take, drop}
+use Rattle.std.proofs.Common.{is_some, Some, None, Option, sym, refl, ap, ◌∙◌, subst, arith}
 use Rattle.std.specs.Option.{option_to_list}
 use Rattle.std.specs.List.{AllByRecursion}
 use Rattle.std.proofs.lemmas.List.{length-drop, length-take-le}
@@ -11,17 +12,11 @@ use Rattle.text.specs.declared.token.Token.{Token}
 use Rattle.text.specs.Verdict.{accepted, first_of, judged, out_of_bounds, token, token_with, tokens_of, unknown}
 use Rattle.tree.specs.declared.piece.PieceRecord.{PieceRecord}
 use Rattle.tree.specs.Pieces.{total, longest}
-use Rattle.tree.specs.Terminals.{before, terminals_of}
+use Rattle.tree.specs.Terminals.{terminals_of}
+use Rattle.tree.proofs.Naming.{first_named}
 use Rattle.spacing.specs.Again.{Again, Retold}
 use Rattle.spacing.specs.Spacing.{Apart}
 use Rattle.spacing.proofs.Accepted.{InPlace}
-
--- the first terminal and the others
-named : (o : Option ℕ) (rest : Option (List ℕ)) (ts : List ℕ) → before o rest ≡ Some ts
-    → (t : ℕ) × (us : List ℕ) × (o ≡ Some t) × (rest ≡ Some us)
-named None rest ts e = let z : ◌≡◌ {A = ℕ} 0 1 = cc in absurd (omega arith)
-named (Some t) None ts e = let z : ◌≡◌ {A = ℕ} 0 1 = cc in absurd (omega arith)
-named (Some t) (Some us) ts e = (t, us, refl, refl)
 
 -- no piece gives cause to refuse, and the tokens are these pieces
 record Accepts (G : Model) (text bytes : List ℕ) (ps : List PieceRecord) (fs : List Found) : Type 0 where
@@ -41,7 +36,7 @@ accepts G text cursor (p ∷ ps) [] bytes terminals again at apart short whole n
 accepts G text cursor (p ∷ ps) (f ∷ fs) bytes terminals again at apart short whole names =
     let w = take p.length bytes in
     let others = drop p.length bytes in
-    let n = named (terminal_of G w) (terminals_of G others ps) terminals names in
+    let n = first_named (terminal_of G w) (terminals_of G others ps) terminals names in
     let t = n.0 in
     let d = length-drop p.length bytes in
     let next = p.column + p.length + 1 in

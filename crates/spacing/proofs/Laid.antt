@@ -1,5 +1,5 @@
 -- Pieces that were laid out stand apart.
-use Rattle.std.proofs.Common.{◌≡◌, ℕ, ◌+◌, ◌≤◌, false, ◌&&◌, ltb, List, [], ◌∷◌, Ok, Err, Result, sym, refl, subst, arith}
+use Rattle.std.proofs.Common.{◌≡◌, ℕ, ◌+◌, ◌≤◌, false, ◌&&◌, ltb, List, [], ◌∷◌, Ok, Result, sym, refl, ◌∙◌, subst, arith}
 use Rattle.std.proofs.lemmas.Bool.{and_right, le-ltb, ltb-false, or_from, or_parts}
 use Rattle.faults.specs.declared.fault.Fault.{Fault}
 use Rattle.grammar.specs.Model.{Model}
@@ -12,6 +12,7 @@ use Rattle.layout.specs.declared.placement.Placement.{Placement}
 use Rattle.layout.specs.Layouts.{Lays, LaysOut, lengths}
 use Rattle.layout.specs.Layouts.Lays.{end, deep, piece, node}
 use Rattle.layout.specs.Lines.{asked, placed}
+use Rattle.layout.proofs.Outcomes.{prefixed_ok}
 use Rattle.layout.specs.Standing.{standing}
 use Rattle.spacing.specs.Spacing.{Apart}
 
@@ -29,21 +30,18 @@ pub lays_apart : {G : Model} {P : Question → Answer} {line : Line} {ss : List 
     {out : Result (List Placement) Fault} → Lays G P line ss rs ls out → (places : List Placement) (ps : List PieceRecord)
     → out ≡ Ok places → lengths ps ≡ ls → Apart line.cursor (standing ps places)
 lays_apart end places [] e n = tt
-lays_apart end places (p ∷ ps) e n = let z : ◌≡◌ {A = ℕ} 0 1 = cc in absurd (omega arith)
-lays_apart (deep high) places ps e n = let z : ◌≡◌ {A = ℕ} 0 1 = cc in absurd (omega arith)
+lays_apart end places (p ∷ ps) e n = cc
+lays_apart (deep high) places ps e n = cc
 lays_apart (node is column symbol known lays) places ps e n = lays_apart lays places ps e n
 lays_apart (piece is column symbol lays all) places [] e n = tt
-lays_apart (piece {out = Err f} is column symbol lays all) places (p ∷ ps) e n =
-    let z : ◌≡◌ {A = ℕ} 0 1 = cc in
-    absurd (omega arith)
-lays_apart (piece {line = line} {l = l} {a = a} {out = Ok qs} is column symbol lays all) places (p ∷ ps) e n =
+lays_apart (piece {line = line} {l = l} {a = a} {out = out} is column symbol lays all) places (p ∷ ps) e n =
     let here = asked line a.breaks in
-    let same : places ≡ placed here a.column ∷ qs = cc in
+    let o = prefixed_ok _ out places (sym all ∙ e) in
     let long : l ≡ p.length = cc in
-    let rest = lays_apart lays qs ps refl (cc) in
-    let rest' : Apart (a.column + p.length + 1) (standing ps qs)
-    = subst (λ (k : ℕ). Apart (a.column + k + 1) (standing ps qs)) long rest in
-    subst (λ (xs : List Placement). Apart line.cursor (standing (p ∷ ps) xs)) (sym same)
+    let rest = lays_apart lays o.0 ps o.1 (cc) in
+    let rest' : Apart (a.column + p.length + 1) (standing ps o.0)
+    = subst (λ (k : ℕ). Apart (a.column + k + 1) (standing ps o.0)) long rest in
+    subst (λ (xs : List Placement). Apart line.cursor (standing (p ∷ ps) xs)) (sym o.2)
     (column, stays_behind here a.column, first_stays here a.column, rest')
 
 pub laid_apart : (G : Model) (P : Question → Answer) (rules : List ℕ) (ps : List PieceRecord) (places : List Placement)

@@ -1,5 +1,6 @@
 -- The tokens of an accepted text lie within it.
-use Rattle.std.proofs.Common.{◌≡◌, ℕ, ◌+◌, ◌<◌, ◌≤◌, Bool, true, false, cond, ◌||◌, eqb, ltb, List, [], ◌∷◌, length, Some, None, Option, sym, ap, ◌∙◌, subst, inl, inr, arith}
+use Rattle.std.proofs.Common.{◌≡◌, ℕ, ◌+◌, ◌<◌, ◌≤◌, Bool, true, false, cond, ◌||◌, eqb, ltb, List, [], ◌∷◌, length, Some, None, Option}
+use Rattle.std.proofs.Common.{sym, ap, ◌∙◌, subst, inl, inr, arith}
 use Rattle.std.specs.Option.{option_map, option_to_list}
 use Rattle.std.specs.List.{AllByRecursion}
 use Rattle.std.proofs.ByRecursion.{All-append}
@@ -13,6 +14,7 @@ use Rattle.grammar.specs.Model.{Model, terminal_of}
 use Rattle.text.specs.declared.token.Token.{Token}
 use Rattle.text.specs.Verdict.{Verdict, accepted, refused, out_of_bounds, unknown, first_of, token, token_with, tokens_of, refused_at}
 use Rattle.text.specs.Verdict.{judged, verdict_on, Judged}
+use Rattle.text.proofs.Accepting.{few-tokens}
 
 -- of at most 32 bytes, and within a text of n bytes
 abbrev pub Inside : ℕ → Token → Type 0
@@ -56,11 +58,11 @@ tokens-inside n G (x ∷ ps) all =
 -- what is accepted is not refused on the way
 past_place : (f : Position → Fault) (o : Option Found) (v : Verdict) (ts : List Token) → accepted ts ≡ refused_at f o v → accepted ts ≡ v
 past_place f None v ts e = e
-past_place f (Some x) v ts e = let z : ◌≡◌ {A = ℕ} 0 1 = cc in absurd (omega arith)
+past_place f (Some x) v ts e = cc
 
 past_test : (b : Bool) (f : Fault) (v : Verdict) (ts : List Token) → accepted ts ≡ cond b (refused f) v → accepted ts ≡ v
 past_test false f v ts e = e
-past_test true f v ts e = let z : ◌≡◌ {A = ℕ} 0 1 = cc in absurd (omega arith)
+past_test true f v ts e = cc
 
 pub accepted-tokens : (G : Model) (ps : List Found) (ts : List Token) → accepted ts ≡ judged G ps → ts ≡ tokens_of G ps
 accepted-tokens G ps ts e =
@@ -76,13 +78,36 @@ cut_inside : (G : Model) (text : List ℕ) (ts : List Token) (k : Cutting) → C
 cut_inside G text ts (Cutting.into ps) (q, r) e =
     let all = tokens-inside (length text) G ps (pieces-inside (length text) r (omega arith)) in
     subst (λ (us : List Token). AllByRecursion (Inside (length text)) us) (sym (accepted-tokens G ps ts e)) all
-cut_inside G text ts (Cutting.stuck p) cut e = let z : ◌≡◌ {A = ℕ} 0 1 = cc in absurd (omega arith)
+cut_inside G text ts (Cutting.stuck p) cut e = absurd (cc)
 
 pub accepted-inside : (G : Model) (text : List ℕ) (ts : List Token) → Judged G text (accepted ts) → AllByRecursion (Inside (length text)) ts
 accepted-inside G text ts j = elim (leb_tells (length text) 12288) [
   | inl p ↦ let k = j.cut p.1 in cut_inside G text ts k.0 k.1 k.2
   | inr p ↦
       let e = j.long p.1 in
-      let z : ◌≡◌ {A = ℕ} 0 1 = cc in
-      absurd (omega arith)
+      absurd (cc)
+]
+
+few_of : (G : Model) (ps : List Found) (ts : List Token) → accepted ts ≡ judged G ps → length ts ≤ 128
+few_of G ps ts e = elim (leb_tells (length ps) 128) [
+  | inl p ↦
+      let same = ap (λ (us : List Token). length us) (accepted-tokens G ps ts e) in
+      omega (arith, p.1, few-tokens G ps)
+  | inr p ↦
+      let many : eqb (length ps) 0 || ltb 128 (length ps) ≡ true = grind (arith, nat_tests, p.1) in
+      let known = refused_at NoTerminal (first_of (unknown G) ps) (accepted (tokens_of G ps)) in
+      let full : accepted ts ≡ refused PieceCount
+      = past_place PieceOutOfBounds (first_of out_of_bounds ps) (refused PieceCount) ts (rw many at e) in
+      cc
+]
+
+cut_few : (G : Model) (text : List ℕ) (ts : List Token) (k : Cutting) → accepted ts ≡ verdict_on G k → length ts ≤ 128
+cut_few G text ts (Cutting.into ps) e = few_of G ps ts e
+cut_few G text ts (Cutting.stuck p) e = absurd (cc)
+
+-- a text with more pieces is refused
+pub accepted-few : (G : Model) (text : List ℕ) (ts : List Token) → Judged G text (accepted ts) → length ts ≤ 128
+accepted-few G text ts j = elim (leb_tells (length text) 12288) [
+  | inl p ↦ let k = j.cut p.1 in cut_few G text ts k.0 k.2
+  | inr p ↦ let e = j.long p.1 in absurd (cc)
 ]

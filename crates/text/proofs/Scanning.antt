@@ -1,5 +1,6 @@
 -- A text's verdict from the steps of the piece reader.
-use Rattle.std.proofs.Common.{◌≡◌, ℕ, ◌<◌, List, [], ◌∷◌, ◌++◌, length, drop, Some, None, Ok, Err, sym, refl, ap, ◌∙◌, subst, inl, inr, arith}
+use Rattle.std.proofs.Common.{◌≡◌, ℕ, ◌<◌, List, [], ◌∷◌, ◌++◌, length, drop, Some, None, Ok, Err, sym, refl, ap, ◌∙◌, subst, inl, inr}
+use Rattle.std.proofs.Common.{arith}
 use Rattle.std.proofs.lemmas.List.{append-nil}
 use Rattle.std.proofs.lemmas.Bool.Decides.{leb_tells}
 use Rattle.faults.specs.declared.fault.Fault.{Fault}
@@ -36,8 +37,7 @@ module _ (G : Model) (text : List ℕ) (x : PieceReader) (same : x.text.now ≡ 
   ended y h = record {
     long = λ l.
         let e = (h.long (rw same l)).0 in
-        let z : ◌≡◌ {A = ℕ} 0 1 = cc in
-        absurd (omega arith);
+        absurd (cc);
     cut = λ s.
         let n = h.next (rw same s) in
         let r = subst (λ (qs : List Found). Reads start text qs (place y) (rest y)) (append-nil ps) (join read n.0) in
@@ -59,8 +59,7 @@ module _ (G : Model) (text : List ℕ) (x : PieceReader) (same : x.text.now ≡ 
     | inl s ↦ join read (h.next (rw same s.1))
     | inr l ↦
         let e = (h.long (rw same l.1)).0 in
-        let z : ◌≡◌ {A = ℕ} 0 1 = cc in
-        absurd (omega arith)
+        absurd (cc)
   ]
 
   pub further : (y : PieceReader) (p : Piece) → Hands x (Ok (Some p)) y → x.offset < y.offset
@@ -68,8 +67,7 @@ module _ (G : Model) (text : List ℕ) (x : PieceReader) (same : x.text.now ≡ 
     | inl s ↦ omega (arith, advance (h.next (rw same s.1)))
     | inr l ↦
         let e = (h.long (rw same l.1)).0 in
-        let z : ◌≡◌ {A = ℕ} 0 1 = cc in
-        absurd (omega arith)
+        absurd (cc)
   ]
 
 -- a reader at the start has read nothing

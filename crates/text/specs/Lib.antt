@@ -1,3 +1,4 @@
+pub mod Inside
 pub mod Notes
 pub mod Tokens
 pub mod Verdict

@@ -4,7 +4,9 @@
 --   judged     the verdict on pieces: first of all 14, then 15, then 16
 --   Judged     the verdict on a text: first of all 12, then 13, then by its pieces
 --   Exactly    this value, and no other
-use Rattle.std.specs.Prelude.{◌≡◌, ℕ, ◌<◌, ◌≤◌, Bool, cond, not, ◌||◌, List, [], ◌∷◌, ◌++◌, length, is_some, Some, None, Ok, Err, Option, Result, ◌==◌, nat_lt}
+--   told       what a scan answers, as a verdict; told_by, by the list that its answer holds
+use Rattle.std.specs.Prelude.{◌≡◌, ℕ, ◌<◌, ◌≤◌, Bool, cond, not, ◌||◌, List, [], ◌∷◌, ◌++◌, length, is_some, Some, None, Ok, Err, Option}
+use Rattle.std.specs.Prelude.{Result, ◌==◌, nat_lt}
 use Rattle.std.specs.Option.{option_map, option_to_list}
 use Rattle.faults.specs.declared.fault.Position.{Position}
 use Rattle.faults.specs.declared.fault.Fault.{Fault}
@@ -64,10 +66,14 @@ pub record Judged (G : Model) (text : List ℕ) (v : Verdict) : Type 0 where
   pub long : 12288 < length text → v ≡ refused TextTooLong
   pub cut : length text ≤ 12288 → (k : Cutting) × Cut text k × (v ≡ verdict_on G k)
 
--- what a scan answers, as a verdict
+-- what is answered of a text, as a verdict; list gives the tokens
+abbrev pub told_by : {X : Type 0} → (X → List Token) → Result X Fault → Verdict
+told_by list (Ok ts) = accepted (list ts)
+told_by list (Err f) = refused f
+
+-- what a scan answers
 abbrev pub told : Result Tokens Fault → Verdict
-told (Ok ts) = accepted (listed ts)
-told (Err f) = refused f
+told r = told_by listed r
 
 pub record Exactly {X : Type 0} (P : X → Type 0) (x : X) : Type 0 where
   pub holds : P x

@@ -1,12 +1,15 @@
-ghost use Rattle.std.specs.Prelude.{◌≡◌, ◌<◌, List, []};
+ghost use Rattle.std.specs.Prelude.{◌≡◌, ◌<◌, List, IfOk};
 ghost use Rattle.pieces.specs.Reader.{found};
 ghost use Rattle.pieces.specs.Pieces.{Found};
-ghost use Rattle.text.specs.Notes.{Noted, Adds, first_place};
-ghost use Rattle.text.specs.Verdict.{out_of_bounds, token_with, told, judged, Judged, Exactly};
+ghost use Rattle.text.specs.Notes.{Noted, Adds, pushed};
+ghost use Rattle.text.specs.Inside.{Inside};
+ghost use Rattle.text.specs.Tokens.{listed};
+ghost use Rattle.text.specs.Verdict.{out_of_bounds, token_with, told, told_by, judged, Judged, Exactly};
 ghost use Rattle.grammar.specs.Model.{Model};
 
 use crate::notes::Notes;
 use crate::token::{Token, Tokens};
+use arrayvec::ArrayVec;
 use faults::fault::{Fault, Position};
 use grammar::grammar::Grammar;
 use pieces::piece::Piece;
@@ -44,46 +47,28 @@ fn token_with(piece: &Piece, terminal: Option<u8>) -> Option<Token>
     })
 }
 
-// The place noted before, else this one if it is to be noted.
-fn first_place(noted: Option<Position>, hit: bool, here: Position) -> Option<Position>
-    ensures { result ≡ first_place noted hit here }
-{
-    match noted {
-        Some(before) => Some(before),
-        None => { if hit { Some(here) } else { None } }
-    }
-}
-
 impl Notes {
-    fn new() -> Notes
-        ensures { (G : Model) → Noted G [] result }
-    {
-        Notes {
-            count: 0,
-            out_of_bounds: None,
-            unknown: None,
-            tokens: Tokens::new(),
-        }
-    }
-
     // Notes one piece more.
     fn add<G: Grammar>(&mut self, g: &G, piece: Piece)
         requires few { self.old.count < 12288 }
         ensures { Adds (G.model g.now) self.old (found piece.entry) self.new }
     {
+        let here = piece.position;
         let terminal = g.terminal(piece.bytes);
-        let outside = is_out_of_bounds(&piece);
+        let outside = is_out_of_bounds(&piece).then_some(here);
+        let unknown = terminal.is_none().then_some(here);
         self.count += 1;
-        self.out_of_bounds = first_place(self.out_of_bounds, outside, piece.position);
-        self.unknown = first_place(self.unknown, terminal.is_none(), piece.position);
+        self.out_of_bounds = self.out_of_bounds.or(outside);
+        self.unknown = self.unknown.or(unknown);
         if let Some(token) = token_with(&piece, terminal) {
-            self.tokens.push(token);
+            // A token that finds no room is let go: the count tells that there are too many.
+            let _ = self.tokens.try_push(token);
         }
     }
 
     // The verdict on the pieces that were noted.
-    fn verdict(self) -> Result<Tokens, Fault>
-        ensures { (G : Model) (ps : List Found) → Noted G ps self → told result ≡ judged G ps }
+    fn verdict(self) -> Result<ArrayVec<Token, 128>, Fault>
+        ensures { (G : Model) (ps : List Found) → Noted G ps self → told_by pushed result ≡ judged G ps }
     {
         let Notes {
             count,
@@ -106,12 +91,14 @@ impl Notes {
 
 // The tokens of a text under a grammar, or the first reason to refuse it.
 pub fn scan<G: Grammar>(g: &G, text: &[u8]) -> Result<Tokens, Fault>
-    ensures { Exactly (Judged (G.model g.now) text.now) (told result) }
+    ensures judged { Exactly (Judged (G.model g.now) text.now) (told result) }
+    ensures inside { IfOk result (λ ts. Inside text.now (listed ts)) }
 {
     let mut reader = PieceReader::new(text);
-    let mut notes = Notes::new();
+    let mut notes = Notes::default();
     while let Some(piece) = reader.next_piece()? {
         notes.add(g, piece);
     }
-    notes.verdict()
+    let list = notes.verdict()?;
+    Ok(Tokens { list })
 }

@@ -1,5 +1,5 @@
 -- Laws of forests: how they end, how long they are, what stops them.
-use Rattle.std.proofs.Common.{◌≡◌, ℕ, ◌≤◌, List, [], ◌∷◌, ◌++◌, length, Some, sym, refl, ◌∙◌, subst, arith}
+use Rattle.std.proofs.Common.{◌≡◌, ℕ, ◌≤◌, List, ◌∷◌, ◌++◌, length, Some, sym, refl, ◌∙◌, subst, arith}
 use Rattle.std.specs.List.{slice_get}
 use Rattle.std.proofs.lemmas.List.{length-append}
 use Rattle.grammar.specs.declared.rule.Symbol.{Symbol}
@@ -19,13 +19,7 @@ some-items (One x) = omega arith
 some-items (Two x y) = omega arith
 some-items (Three x y z) = omega arith
 
-apart : {t a : ℕ} → Terminal t ≡ Nonterminal a → ⊥
-apart e = let z : ◌≡◌ {A = ℕ} 0 1 = cc in omega arith
-
 module _ {G : Model} where
-  pub ended : {rs ts : List ℕ} → Forest G [] rs ts → (rs ≡ []) × (ts ≡ [])
-  ended none = (refl, refl)
-
   -- each item covers a piece at least
   pub covers : {xs : List Item} {rs ts : List ℕ} → Forest G xs rs ts → length xs ≤ length ts
   covers none = omega arith
@@ -45,12 +39,12 @@ module _ {G : Model} where
   pub less_piece : {x : Item} {xs : List Item} {rs ts : List ℕ} {t : ℕ} → x.symbol ≡ Terminal t → Forest G (x ∷ xs) rs (t ∷ ts)
       → Forest G xs rs ts
   less_piece is (piece e f) = f
-  less_piece is (node known e f) = absurd (apart (sym is ∙ e))
+  less_piece is (node known e f) = cc
 
   -- a forest without its first node, whose items come in its place
   pub less_node : {x : Item} {xs : List Item} {rs ts : List ℕ} {r a : ℕ} (rule : Rule) → x.symbol ≡ Nonterminal a
       → slice_get G.rules r ≡ Some rule → Forest G (x ∷ xs) (r ∷ rs) ts → Forest G (listed rule.items ++ xs) rs ts
-  less_node rule is found (piece e f) = absurd (apart (sym e ∙ is))
+  less_node rule is found (piece e f) = cc
   less_node {xs = xs} {rs = rs} {ts = ts} rule is found (node {rule = other} known e f) =
       let o : Some other ≡ Some rule = sym known ∙ found in
       let s : other ≡ rule = cc in

@@ -1,8 +1,10 @@
 -- What the parts of a walk's step do.
 --   Still     a walk stands where the other does
+--   Goes      a walk goes on over the same tree, and the same nodes wait
 --   Blocked   no piece and no node that comes next is what the symbol stands for
 --   Opens     the node whose item comes next, if an item is to come
 --   Keeps     a node with items to come waits, unless too many do
+--   Enters    the walk has come to the next node, whatever the symbol on the left of its rule, or there is no such node
 --   Covers    an item covers what comes next, or that is not what its symbol stands for
 --   Ends      nothing is left over at the end, or something is
 use Rattle.std.specs.Prelude.{◌≡◌, ℕ, ◌<◌, List, [], ◌∷◌, ◌++◌, length, Some, None, Ok, Err, Option, Result, ◌≢◌}
@@ -27,8 +29,12 @@ Blocked G (Nonterminal a) rules terminals =
 module _ {X : Type 0} where
   pub record Still (w v : Walk X) : Type 0 where
     pub same : Same w v
-    pub node : v.node ≡ w.node
+    pub nodes : v.nodes ≡ w.nodes
     pub piece : v.piece ≡ w.piece
+
+  pub record Goes (w v : Walk X) : Type 0 where
+    pub same : Same w v
+    pub waiting : v.waiting ≡ w.waiting
 
   abbrev pub Opens : ℕ → Walk X → Walk X → Option Frame → Type 0
   Opens column w v None = pending w column ≡ []
@@ -37,6 +43,10 @@ module _ {X : Type 0} where
   abbrev pub Keeps : Option Frame → Walk X → Walk X → Result Unit Fault → Type 0
   Keeps rest w v (Ok u) = waiting_slots v ≡ rest_slots rest ++ waiting_slots w
   Keeps rest w v (Err f) = (f ≡ GrammarMismatch) × (128 < length (rest_slots rest ++ waiting_slots w))
+
+  abbrev pub Enters : Model → Walk X → Walk X → Result ℕ Fault → Type 0
+  Enters G w v (Ok left) = Takes G (Nonterminal left) w v
+  Enters G w v (Err f) = (f ≡ GrammarMismatch) × ((a : ℕ) → Blocked G (Nonterminal a) (rules_left w) (terminals_left w))
 
   abbrev pub Covers : Model → Symbol → Walk X → Walk X → Result Unit Fault → Type 0
   Covers G symbol w v (Ok u) = Takes G symbol w v

@@ -11,7 +11,7 @@ use Rattle.grammar.specs.declared.rule.Item.{Item}
 use Rattle.grammar.specs.Model.{Items}
 use Rattle.grammar.specs.Several.{listed}
 use Rattle.tree.specs.declared.frame.Frame.{Frame}
-use Rattle.tree.specs.declared.frame.Entered.{Entered}
+use Rattle.grammar.specs.declared.rule.Expansion.{Expansion}
 
 pub record Slot : Type 0 where
   pub rule : ℕ
@@ -32,7 +32,7 @@ slot_at f x = record { rule = f.rule; column = f.column; index = f.index; item =
 abbrev pub slots_behind : Frame → Items → List Slot
 slots_behind f items = slots f.rule f.column (f.index + 1) (listed items)
 
-abbrev pub entered_slots : Option Entered → ℕ → List Slot
+abbrev pub entered_slots : Option Expansion → ℕ → List Slot
 entered_slots None column = []
 entered_slots (Some e) column = slots e.rule column 0 (listed e.items)
 

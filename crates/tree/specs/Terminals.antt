@@ -9,7 +9,7 @@ use Rattle.tree.specs.declared.piece.PieceRecord.{PieceRecord}
 use Rattle.tree.specs.declared.terminals.Terminals.{Terminals}
 
 abbrev pub listed : Terminals → List ℕ
-listed ts = take ts.count ts.list
+listed ts = ts.list.items
 
 -- one more in front
 abbrev pub before : Option ℕ → Option (List ℕ) → Option (List ℕ)

@@ -5,11 +5,12 @@
 --   pending              all items to come, where the node that the walk came to last has that column
 --   rules_left, terminals_left   the rule numbers of the nodes to come, the terminals of the pieces to come
 --   Ahead                the rest of the rule numbers gives one tree for each item to come, over just the rest of the terminals
+--   From                 the nodes to come, those of a list from a number on
 --   Same, Over           a walk over the same tree under the same grammar; under that grammar over those nodes and terminals
 --   Takes                an item covers the piece or the node that comes next
 --   Begun, Begins        a walk has come to the top of a tree and no further; that, or there is no such tree
 --   Came, Ended, Nexts   the walk has come to an item; to the end; one of these, or there is no such tree
-use Rattle.std.specs.Prelude.{◌≡◌, ℕ, ◌+◌, List, [], ◌∷◌, ◌++◌, map, drop, Some, None, Ok, Err, Option, Result}
+use Rattle.std.specs.Prelude.{◌≡◌, ℕ, ◌+◌, List, [], ◌∷◌, ◌++◌, map, reverse, drop, Some, None, Ok, Err, Option, Result}
 use Rattle.std.specs.Borrow.{Bor}
 use Rattle.std.specs.List.{flat_map, slice_get}
 use Rattle.faults.specs.declared.fault.Fault.{Fault}
@@ -18,19 +19,21 @@ use Rattle.grammar.specs.declared.rule.Symbol.{Symbol}
 use Rattle.grammar.specs.declared.rule.Symbol.TheVariants.{Terminal, Nonterminal}
 use Rattle.grammar.specs.declared.rule.Item.{Item}
 use Rattle.grammar.specs.Model.{Model}
-use Rattle.tree.specs.declared.frame.Entered.{Entered}
+use Rattle.grammar.specs.declared.rule.Expansion.{Expansion}
 use Rattle.tree.specs.declared.node.Node.{Node}
 use Rattle.tree.specs.declared.terminals.Terminals.{Terminals}
 use Rattle.tree.specs.declared.walk.Walk.{Walk}
 use Rattle.tree.specs.declared.walk.Step.{Step}
 use Rattle.tree.specs.Forest.{Forest, Tree}
 use Rattle.tree.specs.Slots.{Slot, frame_slots, entered_slots}
-use Rattle.tree.specs.Stack.{waiting}
 use Rattle.tree.specs.Terminals.{listed}
 
 -- the rule numbers of nodes
 abbrev pub rules_of : List Node → List ℕ
 rules_of ns = map (λ (n : Node). n.rule) ns
+
+abbrev pub From : List Node → List Node → Type 0
+From all left = (passed : ℕ) × (left ≡ drop passed all)
 
 abbrev pub items_of : List Slot → List Item
 items_of ss = map (λ (s : Slot). s.item) ss
@@ -41,13 +44,13 @@ slot_of s = record { rule = s.rule; column = s.column; index = s.index; item = s
 
 module _ {X : Type 0} where
   abbrev pub waiting_slots : Walk X → List Slot
-  waiting_slots w = flat_map frame_slots (waiting w.waiting)
+  waiting_slots w = flat_map frame_slots (reverse w.waiting.items)
 
   abbrev pub pending : Walk X → ℕ → List Slot
   pending w column = entered_slots w.entered column ++ waiting_slots w
 
   abbrev pub rules_left : Walk X → List ℕ
-  rules_left w = drop w.node (rules_of w.nodes.now)
+  rules_left w = rules_of w.nodes.now
 
   abbrev pub terminals_left : Walk X → List ℕ
   terminals_left w = drop w.piece (listed w.terminals.now)
@@ -55,7 +58,7 @@ module _ {X : Type 0} where
   -- a walk over the same tree under the same grammar
   pub record Same (w v : Walk X) : Type 0 where
     pub grammar : v.grammar ≡ w.grammar
-    pub nodes : v.nodes ≡ w.nodes
+    pub nodes : From w.nodes.now v.nodes.now
     pub terminals : v.terminals ≡ w.terminals
 
   abbrev pub Ahead : Model → Walk X → ℕ → Type 0
@@ -65,7 +68,7 @@ module _ {X : Type 0} where
   Takes G (Terminal t) w v =
       (terminals_left w ≡ t ∷ terminals_left v) × (rules_left v ≡ rules_left w) × (v.entered ≡ None) × (v.piece ≡ w.piece + 1)
   Takes G (Nonterminal a) w v =
-      (e : Entered)
+      (e : Expansion)
       × (v.entered ≡ Some e)
       × (slice_get G.rules e.rule ≡ Some record { left = a; items = e.items })
       × (rules_left w ≡ e.rule ∷ rules_left v)
@@ -79,10 +82,11 @@ module _ {X : Type 0} where
 
   -- a walk under that grammar over those nodes and terminals
   abbrev pub Over : Bor X → Bor (List Node) → Bor Terminals → Walk X → Type 0
-  Over grammar nodes terminals w = (w.grammar ≡ grammar) × (w.nodes ≡ nodes) × (w.terminals ≡ terminals)
+  Over grammar nodes terminals w =
+      (w.grammar ≡ grammar) × From nodes.now w.nodes.now × (w.terminals ≡ terminals)
 
   pub record Begun (G : Model) (rules terminals : List ℕ) (w : Walk X) : Type 0 where
-    pub top : Entered
+    pub top : Expansion
     pub entered : w.entered ≡ Some top
     pub left : ℕ
     pub known : slice_get G.rules top.rule ≡ Some record { left = left; items = top.items }

@@ -13,9 +13,14 @@ pub struct Frame {
     ghost few: { index + length (listed items) ≤ 3 },
 }
 
-// A node that a walk has come to while none of its items has come: its rule's number and items.
-#[derive(Clone, Copy)]
-pub struct Entered {
-    pub(crate) rule: u8,
-    pub(crate) items: Items,
+// What stands in memory for no node. By hand, since a derive is refused over a ghost field.
+impl Default for Frame {
+    fn default() -> Frame {
+        Frame {
+            rule: 0,
+            column: 0,
+            index: 0,
+            items: Items::default(),
+        }
+    }
 }

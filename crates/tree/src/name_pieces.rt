@@ -1,9 +1,9 @@
-ghost use Rattle.std.specs.Prelude.{◌≡◌, length};
-ghost use Rattle.std.specs.List.{slice_get};
+ghost use Rattle.std.specs.Prelude.{◌≡◌};
 ghost use Rattle.tree.specs.Terminals.{Named, listed};
 
 use crate::contents::Contents;
 use crate::terminals::Terminals;
+use arrayvec::ArrayVec;
 use faults::fault::Fault;
 use grammar::grammar::Grammar;
 
@@ -13,37 +13,18 @@ impl Terminals {
         ensures { Named (G.model grammar.now) contents.now.bytes.now
             contents.now.pieces.now result }
     {
-        let mut list = [0; 128];
-        let mut start = 0;
-        for (i, piece) in contents.pieces.iter().enumerate() {
-            let end = start + piece.length as usize;
-            let Some(terminal) = grammar.terminal(&contents.bytes[start..end]) else {
-                return Err(Fault::GrammarMismatch);
-            };
-            list[i] = terminal;
-            start = end;
+        let mut list = ArrayVec::new();
+        for (_, bytes) in contents.parts() {
+            let terminal = grammar.terminal(bytes).ok_or(Fault::GrammarMismatch)?;
+            list.push(terminal);
         }
-        Ok(Terminals {
-            list,
-            count: contents.pieces.len(),
-        })
+        Ok(Terminals { list })
     }
 
-    // How many there are.
-    pub fn len(&self) -> usize
-        ensures { result ≡ length (listed self.now) }
+    // The terminals in the order of the pieces.
+    pub fn as_slice(&self) -> &[u8]
+        ensures { result.now ≡ listed self.now }
     {
-        self.count
-    }
-
-    // The terminal of the piece of that number; none past the end.
-    pub fn get(&self, piece: usize) -> Option<u8>
-        ensures { result ≡ slice_get (listed self.now) piece }
-    {
-        if piece < self.count {
-            Some(self.list[piece])
-        } else {
-            None
-        }
+        self.list.as_slice()
     }
 }

@@ -1,9 +1,9 @@
-use crate::frame::{Entered, Frame};
+use crate::frame::Frame;
 use crate::node::Node;
-use crate::stack::Stack;
 use crate::terminals::Terminals;
+use arrayvec::ArrayVec;
 use grammar::grammar::Grammar;
-use grammar::rule::Item;
+use grammar::rule::{Expansion, Item};
 
 // One item of a tree: the number of its node's rule, its node's column, its own number in the rule, the item,
 // and the number of the first piece that it covers.
@@ -20,13 +20,13 @@ pub struct Step {
 #[derive(Drop)]
 pub struct Walk<'a, G: Grammar> {
     pub(crate) grammar: &'a G,
+    // the nodes to come, and the terminals of all pieces
     pub(crate) nodes: &'a [Node],
     pub(crate) terminals: &'a Terminals,
     // the nodes that have items to come, the innermost last
-    pub(crate) waiting: Stack<Frame>,
+    pub(crate) waiting: ArrayVec<Frame, 128>,
     // the node that the walk came to last, while none of its items has come
-    pub(crate) entered: Option<Entered>,
-    // how many nodes and pieces the walk has come to
-    pub(crate) node: usize,
+    pub(crate) entered: Option<Expansion>,
+    // the number of the piece that comes next, which each step tells
     pub(crate) piece: usize,
 }

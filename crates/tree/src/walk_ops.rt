@@ -1,17 +1,17 @@
 ghost use Rattle.std.specs.Prelude.{◌≡◌, IfOk, None};
 ghost use Rattle.grammar.specs.declared.rule.Symbol.TheVariants.{Terminal, Nonterminal};
-ghost use Rattle.tree.specs.Covering.{Covers, Ends, Keeps, Opens, Still};
+ghost use Rattle.tree.specs.Covering.{Covers, Ends, Enters, Goes, Keeps, Opens, Still};
 ghost use Rattle.tree.specs.Terminals.{listed};
 ghost use Rattle.tree.specs.Walks.{Begins, Nexts, Over, Same, rules_of};
 
-use crate::frame::{Entered, Frame};
+use crate::frame::Frame;
 use crate::node::Node;
-use crate::stack::Stack;
 use crate::terminals::Terminals;
 use crate::walk::{Step, Walk};
+use arrayvec::ArrayVec;
 use faults::fault::Fault;
 use grammar::grammar::Grammar;
-use grammar::rule::Symbol;
+use grammar::rule::{Expansion, Symbol};
 
 impl<'a, G: Grammar> Walk<'a, G> {
     // A walk that has come to the top node.
@@ -23,32 +23,16 @@ impl<'a, G: Grammar> Walk<'a, G> {
         ensures over { IfOk result (Over grammar.entry nodes.entry terminals.entry) }
         ensures top { Begins (G.model grammar.now) (rules_of nodes.now) (listed terminals.now) result }
     {
-        if nodes.len() == 0 {
-            return Err(Fault::GrammarMismatch);
-        }
-        let top = nodes[0].rule;
-        let Some(rule) = grammar.rule(top) else {
-            return Err(Fault::GrammarMismatch);
-        };
-        let waiting = Stack::new(Frame {
-            rule: top,
-            column: 0,
-            index: 0,
-            items: rule.items,
-        });
-        let entered = Some(Entered {
-            rule: top,
-            items: rule.items,
-        });
-        Ok(Walk {
+        let mut walk = Walk {
             grammar,
             nodes,
             terminals,
-            waiting,
-            entered,
-            node: 1,
+            waiting: ArrayVec::new(),
+            entered: None,
             piece: 0,
-        })
+        };
+        walk.enter()?;
+        Ok(walk)
     }
 
     // The next item; none at the end. The column is that of the node that the walk came to last.
@@ -79,16 +63,13 @@ impl<'a, G: Grammar> Walk<'a, G> {
         ensures entered { self.new.entered ≡ None }
         ensures slots { Opens column self.old self.new result }
     {
-        match self.entered {
-            Some(node) => {
-                self.entered = None;
-                Some(Frame {
-                    rule: node.rule,
-                    column,
-                    index: 0,
-                    items: node.items,
-                })
-            }
+        match self.entered.take() {
+            Some(node) => Some(Frame {
+                rule: node.rule,
+                column,
+                index: 0,
+                items: node.items,
+            }),
             None => self.waiting.pop(),
         }
     }
@@ -100,59 +81,62 @@ impl<'a, G: Grammar> Walk<'a, G> {
         ensures slots { Keeps rest self.old self.new result }
     {
         match rest {
-            Some(frame) if !self.waiting.push(frame) => Err(Fault::GrammarMismatch),
-            _ => Ok(()),
+            Some(frame) => self
+                .waiting
+                .try_push(frame)
+                .map_err(|_| Fault::GrammarMismatch),
+            None => Ok(()),
         }
+    }
+
+    // Comes to the next node and answers the nonterminal on the left of its rule.
+    fn enter(&mut self) -> Result<u8, Fault>
+        ensures goes { Goes self.old self.new }
+        ensures enters { Enters (G.model self.old.grammar.now) self.old self.new result }
+    {
+        let (node, rest) = self.nodes.split_first().ok_or(Fault::GrammarMismatch)?;
+        let rule = self.grammar.rule(node.rule).ok_or(Fault::GrammarMismatch)?;
+        self.nodes = rest;
+        self.entered = Some(Expansion {
+            rule: node.rule,
+            items: rule.items,
+        });
+        Ok(rule.left)
     }
 
     // Takes the next piece, which should have that terminal.
     fn take_piece(&mut self, terminal: u8) -> Result<(), Fault>
         requires { self.old.entered ≡ None }
-        ensures same { Same self.old self.new }
-        ensures waiting { self.new.waiting ≡ self.old.waiting }
+        ensures goes { Goes self.old self.new }
         ensures takes { Covers (G.model self.old.grammar.now) (Terminal terminal)
             self.old self.new result }
     {
-        let Some(found) = self.terminals.get(self.piece) else {
-            return Err(Fault::GrammarMismatch);
-        };
-        if found != terminal {
-            return Err(Fault::GrammarMismatch);
+        match self.terminals.as_slice().get(self.piece) {
+            Some(found) if *found == terminal => {
+                self.piece += 1;
+                Ok(())
+            }
+            _ => Err(Fault::GrammarMismatch),
         }
-        self.piece += 1;
-        Ok(())
     }
 
     // Takes the next node, which should have that symbol on the left of its rule.
     fn take_node(&mut self, left: u8) -> Result<(), Fault>
-        ensures same { Same self.old self.new }
-        ensures waiting { self.new.waiting ≡ self.old.waiting }
+        ensures goes { Goes self.old self.new }
         ensures takes { Covers (G.model self.old.grammar.now) (Nonterminal left)
             self.old self.new result }
     {
-        if self.node >= self.nodes.len() {
-            return Err(Fault::GrammarMismatch);
+        if self.enter()? == left {
+            Ok(())
+        } else {
+            Err(Fault::GrammarMismatch)
         }
-        let number = self.nodes[self.node].rule;
-        let Some(rule) = self.grammar.rule(number) else {
-            return Err(Fault::GrammarMismatch);
-        };
-        if rule.left != left {
-            return Err(Fault::GrammarMismatch);
-        }
-        self.entered = Some(Entered {
-            rule: number,
-            items: rule.items,
-        });
-        self.node += 1;
-        Ok(())
     }
 
     // Takes the piece or the node that comes next, which should be what the symbol stands for.
     fn cover(&mut self, symbol: Symbol) -> Result<(), Fault>
         requires { self.old.entered ≡ None }
-        ensures same { Same self.old self.new }
-        ensures waiting { self.new.waiting ≡ self.old.waiting }
+        ensures goes { Goes self.old self.new }
         ensures takes { Covers (G.model self.old.grammar.now) symbol self.old self.new result }
     {
         match symbol {
@@ -165,9 +149,10 @@ impl<'a, G: Grammar> Walk<'a, G> {
     fn end(&self) -> Result<Option<Step>, Fault>
         ensures { Ends self.now result }
     {
-        if self.node < self.nodes.len() || self.piece < self.terminals.len() {
-            return Err(Fault::GrammarMismatch);
+        if self.nodes.is_empty() && self.piece >= self.terminals.as_slice().len() {
+            Ok(None)
+        } else {
+            Err(Fault::GrammarMismatch)
         }
-        Ok(None)
     }
 }

@@ -8,7 +8,7 @@ use Rattle.galley.specs.declared.galley.Galley.{Galley}
 use Rattle.galley.specs.Prints.{Prints}
 use Rattle.galley.specs.Views.{Empty}
 use Rattle.formatter.specs.Reindents.{Roomy}
-use Rattle.formatter.proofs.Whole.{reindents, fits}
+use Rattle.formatter.proofs.Whole.{reindents}
 use Rattle.formatter.proofs.reindent.reindent.Goals as goal
 
 -- a new galley over memories of these lengths
@@ -22,36 +22,26 @@ roomy number bytes pieces nodes x b p n e = record {
   unlaid = e.unlaid;
 }
 
-pub returns-in_err-read : goal.returns-in_err-read
-returns-in_err-read c =
+pub returns-in_err-read-clause-is : goal.returns-in_err-read-clause-is
+returns-in_err-read-clause-is c =
     let p = err_from_is_err_and c.from_residual.result c.from_residual.ensures.1 in
-    rw (p.1, p.2)
-    (record {
-      is = (
-        refl,
-        inl (record {
-          x = c.new-galley.result;
-          y = c.read.new.self;
-          roomy = roomy 1 _ _ _ c.new-galley.result refl refl refl c.new-galley.ensures;
-          reads = c.in_err-read.ensures.answer;
-        }),
-      );
-      fits = refl;
-    })
+    rw (p.1, p.2) (
+      refl,
+      inl (record {
+        x = c.new-galley.result;
+        y = c.read.new.self;
+        roomy = roomy 1 _ _ _ c.new-galley.result refl refl refl c.new-galley.ensures;
+        reads = c.in_err-read.ensures.answer;
+      }),
+    )
 
-pub returns : goal.returns
-returns c =
+pub returns-clause-is : goal.returns-clause-is
+returns-clause-is c =
     let y = c.read.new.self in
     let old = c.args.out.now in
     let r = c.lay_and_write.result in
     let new = c.lay_and_write.new.buffer in
-    let wide = c.in_ok-policy.ensures.0 in
-    let writes = subst (λ (w : ℕ). Prints block (step w) y old 0 r c.lay_and_write.new.self new) wide c.lay_and_write.ensures.prints in
-    let kept = c.lay_and_write.ensures.fits in
-    record {
-      is =
-          reindents c.args.text.now old c.new-galley.result y c.lay_and_write.new.self new
-          (roomy 1 _ _ _ c.new-galley.result refl refl refl c.new-galley.ensures) c.in_ok-read.ensures.answer r
-          writes kept;
-      fits = fits old new r kept;
-    }
+    let written = c.lay_and_write.ensures in
+    let writes = subst (λ (w : ℕ). Prints block (step w) y old 0 r c.lay_and_write.new.self new) c.in_ok-policy.ensures.0 written.prints in
+    reindents c.args.text.now old c.new-galley.result y c.lay_and_write.new.self new
+    (roomy 1 _ _ _ c.new-galley.result refl refl refl c.new-galley.ensures) c.in_ok-read.ensures.answer r writes written.fits

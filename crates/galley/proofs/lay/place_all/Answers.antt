@@ -1,27 +1,28 @@
-use Rattle.std.proofs.Common.{◌≡◌, ◌+◌, ◌<◌, false, List, length, get_or, take, set, sym, ◌∙◌, subst, arith}
-use Rattle.tree.specs.declared.piece.PieceRecord.{PieceRecord}
-use Rattle.layout.specs.declared.placement.Placement.{Placement}
-use Rattle.galley.specs.Lays.{stand, standing}
+use Rattle.std.proofs.Common.{sym, ◌∙◌, arith}
+use Rattle.std.proofs.lemmas.List.{set-get_or}
+use Rattle.galley.proofs.Left.{left_more, left-none}
 use Rattle.galley.proofs.Standing.{standing-none, standing_more, standing-all}
 use Rattle.galley.proofs.lay.place_all.Goals as goal
 
-pub loop-i-init : goal.loop-i-init
-loop-i-init c = sym (standing-none c.args.pieces.now)
+pub loop-piece-init : goal.loop-piece-init
+loop-piece-init c = (sym (standing-none c.args.pieces.now), c.iter-places.ensures.rest)
 
-pub loop-i-preserved : goal.loop-i-preserved
-loop-i-preserved c =
-    let ps = c.args.pieces.now in
-    let qs = c.args.places.now in
-    let i = c.loop-i.i in
-    let d : PieceRecord = record { length = 0; terminal = 0; column = 0; opens_line = false } in
-    let e : Placement = record { column = 0; opens_line = false } in
-    let h : i < length ps = omega (arith, c.loop-i-test.true, c.min-i-end.ensures) in
-    let k : i < length qs = omega (arith, c.loop-i-test.true, c.min-i-end.ensures) in
-    subst (λ (xs : List PieceRecord). set xs i (stand (get_or xs i d) (get_or qs i e)) ≡ standing ps (take (i + 1) qs))
-    (sym c.loop-i.invariant)
-    (standing_more ps qs i d e h k)
+pub loop-piece-preserved : goal.loop-piece-preserved
+loop-piece-preserved c =
+    let at = left_more c.args.places.now _ _ c.loop-piece.piece-index _ c.loop-piece.invariant.1 c.in-Some.ensures.steps in (
+      standing_more c.args.pieces.now c.loop-piece.pieces c.args.places.now c.loop-piece.piece-index _ c.in-Some.place.now
+          c.loop-piece.invariant.0 c.loop-piece-test.true at.0 at.1,
+      at.2,
+    )
 
-pub returns : goal.returns
-returns c =
-    c.loop-i.invariant
-    ∙ standing-all c.args.pieces.now c.args.places.now c.loop-i.i (omega (arith, c.loop-i-test.false, c.min-i-end.ensures))
+pub returns-after-loop-piece : goal.returns-after-loop-piece
+returns-after-loop-piece c =
+    c.loop-piece.invariant.0
+    ∙ standing-all c.args.pieces.now c.args.places.now c.loop-piece.piece-index (omega (arith, c.loop-piece-test.false))
+
+pub returns-in_default : goal.returns-in_default
+returns-in_default c =
+    let none = left-none c.args.places.now _ c.loop-piece.piece-index c.loop-piece.invariant.1 c.in_default.ensures.steps.0 in
+    set-get_or c.loop-piece.pieces c.loop-piece.piece-index _
+    ∙ c.loop-piece.invariant.0
+    ∙ standing-all c.args.pieces.now c.args.places.now c.loop-piece.piece-index (omega (arith, none))

@@ -1,6 +1,8 @@
-use Rattle.std.proofs.Common.{◌≡◌, take}
-use Rattle.galley.specs.Lays.{standing}
+use Rattle.std.proofs.Common.{◌≡◌, take, drop}
+use Rattle.layout.specs.Standing.{standing}
 use Rattle.galley.proofs.lay.place_all.Given as goal
 
-abbrev pub invariant-loop-i : goal.invariant-loop-i
-invariant-loop-i l = l.pieces ≡ standing l.initial.pieces (take l.i l.places)
+abbrev pub invariant-loop-piece : goal.invariant-loop-piece
+invariant-loop-piece l =
+    (l.pieces ≡ standing l.initial.pieces (take l.piece-index l.places-2))
+    × (l.places.rest.now ≡ drop l.piece-index l.places-2)

@@ -1,45 +1,24 @@
-use Rattle.std.proofs.Common.{◌≤◌, length, ◌∙◌, arith}
-use Rattle.galley.specs.Loads.{byte_count, bytes_of}
-use Rattle.galley.proofs.Loading.{count_more, count-below, token-inside, loaded_more, all-tokens}
+use Rattle.std.proofs.Common.{◌≤◌, length, ap, arith}
+use Rattle.text.specs.Inside.{Inside}
+use Rattle.galley.specs.Loads.{byte_count}
+use Rattle.galley.proofs.Loading.{count_more, count-below, bytes_long, loaded_more}
 use Rattle.galley.proofs.load.load_bytes.Goals as goal
 
-pub overflow_add-end : goal.overflow_add-end
-overflow_add-end c =
-    let e = count-below c.args.tokens.now c.loop-i.i c.loop-i-test.true in
-    omega (arith, c.loop-i.invariant.0, c.requires.room)
-
-pub slice_bounds-copy_from_slice-end : goal.slice_bounds-copy_from_slice-end
-slice_bounds-copy_from_slice-end c =
-    let e = count-below c.args.tokens.now c.loop-i.i c.loop-i-test.true in
-    omega (arith, c.loop-i.invariant.0, c.requires.room, c.loop-i.auto.memory)
-
-pub slice_bounds-copy_from_slice-end-in-loop-i : goal.slice_bounds-copy_from_slice-end-in-loop-i
-slice_bounds-copy_from_slice-end-in-loop-i c =
-    let e = token-inside c.args.tokens.now c.loop-i.i c.loop-i-test.true c.args.text.now c.requires.inside in
-    omega (arith, e.1)
-
-pub overflow_add-end-in-loop-i : goal.overflow_add-end-in-loop-i
-overflow_add-end-in-loop-i c =
-    let e = count-below c.args.tokens.now c.loop-i.i c.loop-i-test.true in
-    omega (arith, c.loop-i.invariant.0, c.requires.room)
-
-pub loop-i-preserved : goal.loop-i-preserved
-loop-i-preserved c =
-    let ts = c.args.tokens.now in
-    let i = c.loop-i.i in
-    let h = c.loop-i-test.true in
+pub loop-token-preserved : goal.loop-token-preserved
+loop-token-preserved c =
+    let text = c.args.source.now.text.now in
+    let ts = c.as_slice-token-items.result.now in
+    let i = c.loop-token.token-index in
+    let h = c.loop-token-test.true in
+    let inside : Inside text ts = rw c.as_slice-token-items.ensures c.args.source.now.inside in
+    let all = ap byte_count c.as_slice-token-items.ensures in
     let m = count_more ts i h in
-    let e = count-below ts i h in
-    let fits : c.loop-i.end ≤ length c.loop-i.memory = omega (arith, c.loop-i.invariant.0, c.requires.room, c.loop-i.auto.memory) in (
-      omega (arith, c.loop-i.invariant.0),
-      loaded_more ts i h c.args.text.now c.loop-i.memory c.copy_from_slice.new.self c.loop-i.end _ c.requires.inside fits
-          c.loop-i.invariant.1 c.copy_from_slice.ensures.after,
-    )
-
-pub returns : goal.returns
-returns c =
-    let ts = c.args.tokens.now in
+    let below = count-below ts i h in
+    let fits : c.loop-token.end ≤ length c.loop-token.memory = omega arith in
+    let own = c.bytes_at-bytes.ensures in
+    let long = bytes_long ts i h text c.bytes_at-bytes.result.now inside own in
     record {
-      count = c.loop-i.invariant.0 ∙ all-tokens byte_count ts c.loop-i.i c.loop-i-test.false;
-      after = c.loop-i.invariant.1 ∙ all-tokens (bytes_of c.args.text.now) ts c.loop-i.i c.loop-i-test.false;
+      count = omega arith;
+      loaded = loaded_more ts i h text c.bytes_at-bytes.result.now inside own c.loop-token.memory
+          c.copy_from_slice.new.self c.loop-token.end _ fits c.loop-token.invariant.loaded c.copy_from_slice.ensures.after;
     }

@@ -1,21 +1,16 @@
-use Rattle.std.proofs.Common.{◌≡◌, ℕ, ◌<◌, length, get_or, take, ap, ◌∙◌, arith}
+use Rattle.std.proofs.Common.{arith}
 use Rattle.std.proofs.lemmas.List.{take_more_set, map_more}
-use Rattle.galley.specs.Loads.{record_of, records_of}
-use Rattle.galley.proofs.Loading.{blank, all-tokens}
+use Rattle.galley.specs.Loads.{record_of}
+use Rattle.galley.proofs.Left.{left_more}
 use Rattle.galley.proofs.load.load_pieces.Goals as goal
 
-pub loop-i-preserved : goal.loop-i-preserved
-loop-i-preserved c =
-    let ts = c.args.tokens.now in
-    let i = c.loop-i.i in
-    let in' : i < length c.loop-i.memory = omega (arith, c.loop-i-test.true, c.loop-i.auto.memory) in
-    let a = take_more_set c.loop-i.memory i (record_of (get_or ts i blank)) in' in
-    let b = map_more record_of ts i blank c.loop-i-test.true in
-    let e = c.loop-i.invariant in
-    cc
-
-pub returns : goal.returns
-returns c =
-    let ts = c.args.tokens.now in
-    let end : length ts ≡ c.loop-i.i = omega (arith, c.loop-i-test.false, c.loop-i.auto.i-end) in
-    ap (λ (n : ℕ). take n c.loop-i.memory) end ∙ c.loop-i.invariant ∙ all-tokens records_of ts c.loop-i.i c.loop-i-test.false
+pub loop-record-preserved : goal.loop-record-preserved
+loop-record-preserved c =
+    let i = c.loop-record.record-index in
+    let at = left_more c.args.tokens.now _ _ i _ c.loop-record.invariant.2 c.in-Some.ensures.steps in
+    let new = take_more_set c.loop-record.memory i c.record_of.result (omega (arith, c.loop-record-test.true)) in
+    let all = map_more record_of c.args.tokens.now i c.in-Some.token.now at.0 in
+    let before = c.loop-record.invariant.0 in
+    let same = at.1 in
+    let made = c.record_of.ensures in
+    (cc, omega (arith, at.0), at.2)

@@ -1,4 +1,4 @@
-use Rattle.std.proofs.Common.{ℕ, ◌≤◌, length, take, Ok, Err, sym, refl, ap, ◌∙◌, subst, arith}
+use Rattle.std.proofs.Common.{ℕ, ◌≤◌, length, Err, sym, refl, ap, ◌∙◌, subst, arith}
 use Rattle.std.proofs.lemmas.Result.{err_from_is_err_and}
 use Rattle.faults.specs.declared.fault.Fault.{Fault}
 use Rattle.tree.specs.declared.terminals.Terminals.{Terminals}
@@ -6,24 +6,10 @@ use Rattle.tree.specs.Terminals.{listed}
 use Rattle.tree.specs.Walks.{rules_of}
 use Rattle.tree.proofs.Steps.{at_last, at_some, came_on, under}
 use Rattle.layout.specs.Layouts.{LaysOut, lengths}
-use Rattle.layout.specs.Placers.{Puts, Within, taken}
+use Rattle.layout.specs.Placers.{Puts, taken}
 use Rattle.layout.proofs.Laying.{SoFar, all_laid, lengths-long, one_more, piece-below, piece-within, puts_long, too_deep}
 use Rattle.layout.proofs.Outcomes.{comes_out}
 use Rattle.layout.proofs.place.place.Goals as goal
-
-pub put-requires : goal.put-requires
-put-requires g c =
-    let G = g.G.Grammar.model c.args.grammar.now in
-    let column = c.loop-step.column in
-    let w = c.loop-step.walk in
-    let v = c.next.new.self in
-    let next = c.in_ok-step.ensures.next in
-    let answer = under column w v c.in_ok-step.field-0 (ap g.G.Grammar.model c.loop-step.invariant.0) next in
-    let s = c.in-Some.step in
-    let came = at_some G column w v _ s c.in-Some.is answer in
-    let same = ap (λ (t : Terminals). length (listed t)) c.loop-step.invariant.1 ∙ c.requires.same in
-    let n = length c.args.contents.now.pieces.now in
-    subst (λ (k : ℕ). Within s.item.symbol k n) (sym came.piece) (piece-within G w v _ s.item.symbol came.takes same)
 
 pub returns-in_err-column : goal.returns-in_err-column
 returns-in_err-column g c =
@@ -66,10 +52,10 @@ loop-step-preserved g c =
     let within = piece-within G w v _ s.item.symbol came.takes (same ∙ sym long) in
     let puts = subst (λ (k : ℕ). Puts s.item.symbol a ls k before after) came.piece put.2 in
     let shallow : a.column ≤ 63 = subst (λ (k : ℕ). k ≤ 63) put.0 put.1 in
-    let on = one_more G P rules ls w v s a before after refl shallow (omega arith) column came within puts c.loop-step.invariant.5 in (
+    let on = one_more G P rules ls w v s a before after refl shallow column came within puts c.loop-step.invariant.5 in (
       ap (λ x. x.now) next.same.grammar ∙ c.loop-step.invariant.0,
       ap (λ x. x.now) next.same.terminals ∙ c.loop-step.invariant.1,
-      puts_long s.item.symbol a ls w.piece before after puts ∙ c.loop-step.invariant.2,
+      puts_long G w v s.item.symbol a ls before after came.takes puts c.loop-step.invariant.2,
       piece-below G w v _ s.item.symbol came.takes same c.loop-step.invariant.3,
       came_on G column c.in_ok-column.column w v s came c.loop-step.invariant.4,
       subst (λ (k : ℕ). SoFar G P rules ls v k after) (sym put.0) on,
@@ -91,4 +77,4 @@ returns g c =
     let placer = c.loop-step.placer in
     let ended = at_last G column w v _ c.in_default.is answer in
     let laid = all_laid G P rules ls w column placer ended (same ∙ sym long) (omega arith) c.loop-step.invariant.5 in
-    comes_out G P rules ls _ (subst (λ (k : ℕ). LaysOut G P rules ls (Ok (take k placer.list))) long laid)
+    comes_out G P rules ls _ laid

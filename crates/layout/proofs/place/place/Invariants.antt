@@ -8,7 +8,7 @@ abbrev pub invariant-loop-step : goal.invariant-loop-step
 invariant-loop-step g l =
     (l.walk.grammar.now ≡ l.grammar)
     × (l.walk.terminals.now ≡ l.terminals)
-    × (length l.placer.list ≡ 128)
+    × (length l.placer.list.items ≡ l.walk.piece)
     × (l.walk.piece ≤ length l.contents.pieces.now)
     × Ahead (g.G.Grammar.model l.grammar) l.walk l.column
     × SoFar (g.G.Grammar.model l.grammar) (g.P.Policy.answers l.policy) (rules_of l.contents.nodes.now)

@@ -1,14 +1,12 @@
-use Rattle.std.proofs.Common.{◌≡◌, ◌+◌, ◌++◌, length, take, drop}
-use Rattle.tree.specs.Pieces.{total}
-use Rattle.layout.specs.Text.{text, width}
+use Rattle.std.proofs.Common.{◌≡◌, ℕ, List, ◌++◌}
+use Rattle.tree.specs.Parts.{parts_left}
+use Rattle.layout.specs.Text.{text}
+use Rattle.layout.specs.Writers.{Wrote}
+use Rattle.layout.proofs.Emits.{written}
 use Rattle.layout.proofs.text.emit.Given as goal
 
 abbrev pub invariant-loop-piece : goal.invariant-loop-piece
 invariant-loop-piece l =
-    (l.writer.out.ghost_name ≡ l.initial.writer.out.ghost_name)
-    × (length l.writer.out.now ≡ length l.initial.writer.out.now)
-    × (l.start + total (drop l.piece-index l.contents.pieces.now) ≡ length l.contents.bytes.now)
-    × (l.writer.position + width l.reached (drop l.piece-index l.contents.pieces.now) ≡ width 0 l.contents.pieces.now)
-    × (take l.writer.position l.writer.out.now ++ text l.reached (drop l.piece-index l.contents.pieces.now)
-    (drop l.start l.contents.bytes.now) ≡ text 0 l.contents.pieces.now l.contents.bytes.now)
-    × (drop l.writer.position l.writer.out.now ≡ drop l.writer.position l.initial.writer.out.now)
+    (done : List ℕ)
+    × Wrote l.initial.writer l.writer done
+    × (done ++ written l.writer.reached (parts_left l.piece-iterator) ≡ text 0 l.contents.pieces.now l.contents.bytes.now)

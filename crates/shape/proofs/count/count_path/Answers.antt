@@ -1,30 +1,38 @@
-use Rattle.std.proofs.Common.{◌≡◌, ℕ, ◌+◌, ◌-◌, length, get_or, drop, sym, ap, ◌∙◌, arith}
-use Rattle.std.proofs.lemmas.List.{drop_all, length-drop}
+use Rattle.std.proofs.Common.{[], ◌∷◌, sym, ap, length, ◌∙◌, arith}
+use Rattle.std.specs.Slice.Iter.{iter_rest}
+use Rattle.std.proofs.lemmas.List.{append-nil}
 use Rattle.shape.specs.declared.count.Path.{Path}
 use Rattle.shape.specs.Children.{under}
 use Rattle.shape.specs.Counted.{path, widened}
-use Rattle.shape.proofs.Counts.{blank, path-few, path_more, pieces-drop}
+use Rattle.shape.proofs.Counts.{back-few, none_left, none_seen, one_back}
 use Rattle.shape.proofs.count.count_path.Goals as goal
 
-pub loop-i-init : goal.loop-i-init
-loop-i-init c = sym (ap path (drop_all (length c.args.nodes.now) c.args.nodes.now (omega arith)))
+pub loop-node-init : goal.loop-node-init
+loop-node-init c =
+    let rest = ap (λ r. iter_rest r.iter) c.into_iter-node-iterator.ensures.into_iter_gives ∙ ap iter_rest c.rev-node-items.ensures.source
+    ∙ c.iter.ensures.rest in
+    let all = append-nil (iter_rest c.into_iter-node-iterator.result.iter) ∙ rest in
+    ([], sym all, none_seen c.default-so_far.result c.default-so_far.ensures)
 
 pub widen-so_far-requires : goal.widen-so_far-requires
 widen-so_far-requires c =
-    let ns = c.args.nodes.now in
-    let f = path-few (drop c.loop-i.i ns) in
-    let d = pieces-drop ns c.loop-i.i in
-    let l = length-drop c.loop-i.i ns in
-    let p = ap (λ (x : Path). x.pieces) c.loop-i.invariant in
-    let t = ap (λ (x : Path). x.trees) c.loop-i.invariant in
+    let seen = c.loop-node.invariant in
+    let f = back-few _ _ _ seen.0 _ seen.1 c.in-Some.ensures.steps in
+    let p = ap (λ (x : Path). x.pieces) seen.2 in
+    let t = ap (λ (x : Path). x.trees) seen.2 in
+    let l = ap length c.iter.ensures.rest in
+    let b = c.iter.ensures.bound in
     (omega arith, omega arith)
 
-pub loop-i-preserved : goal.loop-i-preserved
-loop-i-preserved c =
-    let ns = c.args.nodes.now in
-    let i = c.loop-i.i - 1 in
-    let e : i + 1 ≡ c.loop-i.i = omega arith in
-    let m = path_more ns i blank (omega arith) in
-    let n = ap (λ (k : ℕ). path (drop k ns)) e in
-    let w = ap (widened (under (get_or ns i blank))) c.loop-i.invariant in
-    c.widen-so_far.ensures ∙ w ∙ sym (m ∙ ap (widened (under (get_or ns i blank))) n)
+pub loop-node-preserved : goal.loop-node-preserved
+loop-node-preserved c =
+    let seen = c.loop-node.invariant in (
+      c.in-Some.node.now ∷ seen.0,
+      one_back _ _ _ seen.0 _ seen.1 c.in-Some.ensures.steps,
+      c.widen-so_far.ensures ∙ ap (widened (under c.in-Some.node.now)) seen.2,
+    )
+
+pub returns : goal.returns
+returns c =
+    let seen = c.loop-node.invariant in
+    seen.2 ∙ ap path (none_left _ _ seen.0 seen.1 c.in-None.ensures.steps.0)

@@ -1,6 +1,8 @@
-use Rattle.std.proofs.Common.{◌≡◌, drop}
+use Rattle.std.proofs.Common.{◌≡◌, List, ◌++◌}
+use Rattle.std.specs.Slice.Iter.{iter_rest}
+use Rattle.tree.specs.declared.node.Node.{Node}
 use Rattle.shape.specs.Counted.{path}
 use Rattle.shape.proofs.count.count_path.Given as goal
 
-abbrev pub invariant-loop-i : goal.invariant-loop-i
-invariant-loop-i l = l.so_far ≡ path (drop l.i l.nodes)
+abbrev pub invariant-loop-node : goal.invariant-loop-node
+invariant-loop-node l = (seen : List Node) × (l.nodes ≡ iter_rest l.node-iterator.iter ++ seen) × (l.so_far ≡ path seen)

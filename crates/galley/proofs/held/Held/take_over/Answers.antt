@@ -1,40 +1,29 @@
-use Rattle.std.proofs.Common.{◌≤◌, length, arith}
-use Rattle.std.proofs.lemmas.List.{length-take-le}
+use Rattle.std.proofs.Common.{◌≤◌, length, ap, arith}
+use Rattle.std.proofs.lemmas.Result.{err_from_is_err_and}
 use Rattle.text.specs.Tokens.{listed}
 use Rattle.galley.specs.Loads.{byte_count}
 use Rattle.galley.specs.Stores.{room}
-use Rattle.std.proofs.lemmas.Result.{err_from_is_err_and}
-use Rattle.galley.proofs.Taking.{took_over, not_taken}
+use Rattle.galley.proofs.Taking.{well_held, not_taken, same_held}
 use Rattle.galley.proofs.held.Held.take_over.Goals as goal
 
-pub returns : goal.returns
-returns g c =
-    let tokens = c.args.tokens.now in
-    let h = c.args.self.now in
-    let list = c.as_slice-list.result.now in
-    let l = length-take-le tokens.count tokens.list (omega (arith, tokens.whole, tokens.few)) in
-    let few : length (listed tokens) ≤ 128 = omega (arith, tokens.few) in
-    let count = c.count_bytes.ensures in
-    let bytes : byte_count list ≤ room h.bytes = omega (arith, c.if-self-count_bytes.false) in
-    let read = c.in_ok-hold_reading.ensures in
-    let both =
-    took_over (g.G.Grammar.model c.args.g.now) c.args.symbol (length c.args.cells.now) c.args.text.now (listed
-    tokens) list h
-    (record { bytes = c.hold_bytes.new.self; pieces = c.hold_pieces.new.self; nodes = c.hold_reading.new.self })
-    c.as_slice-list.ensures c.requires.inside few bytes c.if-self-list.false read
-    c.hold_bytes.ensures.used c.hold_bytes.ensures.room c.hold_bytes.ensures.front
-    c.hold_pieces.ensures.used c.hold_pieces.ensures.room c.hold_pieces.ensures.front in
-    record { took = both.0; sound = both.1; tree = λ whole. both.2 }
+pub invariant_of-self-2 : goal.invariant_of-self-2
+invariant_of-self-2 g c =
+    let ts = c.args.source.now.tokens.now in
+    let w =
+    well_held _ _ c.args.source.now.text.now (listed ts) c.hold_bytes.new.self c.hold_pieces.new.self c.hold_reading.new.self _ _
+    c.args.source.now.inside ts.few
+    c.hold_bytes.ensures.used c.hold_pieces.ensures.used c.hold_pieces.ensures.front c.in_ok-hold_reading.ensures in
+    record { few = w.0; short = w.1; whole = w.2; tree = w.3; over = w.4 }
 
 pub returns-in_err-hold_reading : goal.returns-in_err-hold_reading
 returns-in_err-hold_reading g c =
     let h = c.args.self.now in
-    let list = c.as_slice-list.result.now in
-    let count = c.count_bytes.ensures in
-    let bytes : byte_count list ≤ room h.bytes = omega (arith, c.if-self-count_bytes.false) in
+    let ts = c.args.source.now.tokens.now in
+    let bytes : byte_count (listed ts) ≤ room h.bytes = omega arith in
+    let long = ap length c.as_slice.ensures in
+    let pieces : length (listed ts) ≤ room h.pieces = omega arith in
     let p = err_from_is_err_and c.from_residual.result c.from_residual.ensures.1 in
-    let both =
-    not_taken (g.G.Grammar.model c.args.g.now) c.args.symbol (length c.args.cells.now) c.args.text.now (listed c.args.tokens.now)
-    list h c.hold_reading.new.self c.in_err-hold_reading.field-0.0 c.as_slice-list.ensures c.requires.own bytes
-    c.if-self-list.false c.in_err-hold_reading.ensures in
-    record { took = rw (p.1, p.2) both.0; sound = both.1; tree = both.2 }
+    rw (p.1, p.2)
+    (not_taken _ _ (length c.args.cells.now) c.args.source.now.text.now (listed ts) h _ c.hold_reading.new.self
+    c.in_err-hold_reading.field-0.0 bytes pieces c.in_err-hold_reading.ensures
+    (same_held h c.hold_reading.new.self _ _ _ _ _))

@@ -1,21 +1,19 @@
-use Rattle.std.proofs.Common.{ℕ, List, sym, subst, arith}
+use Rattle.std.proofs.Common.{[], ◌∷◌, true, false, replicate, sym, subst}
+use Rattle.layout.specs.declared.line_writer.LineWriter.{LineWriter}
 use Rattle.layout.specs.Writers.{Wrote}
-use Rattle.layout.proofs.Leads.{lead_new, long_new, long_on}
+use Rattle.layout.proofs.Leads.{lead_by}
 use Rattle.layout.proofs.Wrote.{wrote_on}
 use Rattle.layout.proofs.line_writer.LineWriter.lead_in.Goals as goal
+use Rattle.layout.proofs.line_writer.LineWriter.lead_in.Goals.{then-piece, else-piece}
 
-pub spaces-requires : goal.spaces-requires
-spaces-requires c =
-    let l = long_new c.args.reached c.args.piece.now c.if-piece.true in
-    let p = c.put.ensures.position in
-    let r = c.put.ensures.room in
-    omega arith
-
-pub spaces-requires-else-piece : goal.spaces-requires-else-piece
-spaces-requires-else-piece c = let l = long_on c.args.reached c.args.piece.now c.if-piece.false in omega arith
-
-pub returns-then-piece : goal.returns-then-piece
-returns-then-piece c =
-    subst (λ (xs : List ℕ). Wrote c.args.self.now c.spaces.new.self xs)
-    (sym (lead_new c.args.reached c.args.piece.now c.if-piece.true))
-    (wrote_on c.args.self.now c.put.new.self c.spaces.new.self _ _ c.put.ensures c.spaces.ensures)
+pub returns : goal.returns
+returns c =
+    elim c.if-piece.branch [
+      | then-piece w ↦
+          let put = subst (λ (v : LineWriter). Wrote c.args.self.now v (10 ∷ [])) (sym w.self-is) w.put.ensures in
+          subst (Wrote c.args.self.now c.spaces.new.self) (sym (lead_by _ _ _ true c.spaces_before-spaces.ensures.lead w.if-piece.true))
+          (wrote_on c.args.self.now c.if-piece.self c.spaces.new.self _ _ put c.spaces.ensures)
+      | else-piece w ↦
+          subst (Wrote c.args.self.now c.spaces.new.self) (sym (lead_by _ _ _ false c.spaces_before-spaces.ensures.lead w.if-piece.false))
+          (subst (λ (v : LineWriter). Wrote v c.spaces.new.self (replicate c.spaces_before-spaces.result 32)) w.self-is c.spaces.ensures)
+    ]

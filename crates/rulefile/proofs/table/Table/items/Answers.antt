@@ -4,7 +4,8 @@ use Rattle.grammar.specs.Model.{Items}
 use Rattle.grammar.specs.declared.several.Several.TheVariants.{Two, Three}
 use Rattle.grammar.specs.Model.{Terminal}
 use Rattle.rulefile.specs.declared.row.Entry.{Entry}
-use Rattle.rulefile.specs.declared.row.Entries.{Entries}
+use Rattle.grammar.specs.declared.several.Several.{Several}
+use Rattle.rulefile.specs.declared.row.Entry.{Entry}
 use Rattle.rulefile.specs.declared.table.Table.{Table}
 use Rattle.rulefile.specs.Rows.{Called, symbols, item_by, items_by}
 use Rattle.rulefile.specs.Views.{called, written, several, Full, Gives}
@@ -19,10 +20,10 @@ abbrev by : Entry → List (List ℕ) → List Terminal → Item
 by e ns ts = item_by ns ts (written e)
 
 -- what is to be shown of some entries
-abbrev To : Table → Option Items → Table → Entries → Type 0
+abbrev To : Table → Option Items → Table → Several Entry → Type 0
 To t r u es = Gives (symbols (several es)) (λ ns ts. items_by ns ts (several es)) t r u
 
-abbrev OutOf : Table → Entries → Type 0
+abbrev OutOf : Table → Several Entry → Type 0
 OutOf t es = Full (symbols (several es)) t
 
 pub returns-in_err-item-in-Two : goal.returns-in_err-item-in-Two

@@ -1,32 +1,14 @@
-use Rattle.std.proofs.Common.{drop, refl, arith, rules}
-use Rattle.std.proofs.lemmas.List.{length-set}
-use Rattle.tree.proofs.Naming.{total-next, named_more, named_none, named_all}
+use Rattle.std.proofs.Common.{ap, ◌∙◌, length, arith}
+use Rattle.tree.specs.Parts.{parts_left}
+use Rattle.tree.proofs.Naming.{named_first, parts-long}
 use Rattle.tree.proofs.terminals.Terminals.of.Goals as goal
 
-pub slice_bounds-terminal-end : goal.slice_bounds-terminal-end
-slice_bounds-terminal-end g c =
-    let t = total-next (g.G.Grammar.model c.args.grammar.now) c.args.contents.now.bytes.now
-    c.args.contents.now.pieces.now c.loop-i.i c.loop-i.start c.loop-i-test.true in
-    search rules
-
-pub returns-in_default : goal.returns-in_default
-returns-in_default g c = (
-  named_none (g.G.Grammar.model c.args.grammar.now) c.args.contents.now.bytes.now c.args.contents.now.pieces.now
-      c.loop-i.i c.loop-i.start c.loop-i-test.true c.loop-i.list _ c.in_default.ensures c.loop-i.invariant.2,
-  refl,
-)
-
-pub loop-i-preserved : goal.loop-i-preserved
-loop-i-preserved g c =
-    let t = total-next (g.G.Grammar.model c.args.grammar.now) c.args.contents.now.bytes.now
-    c.args.contents.now.pieces.now c.loop-i.i c.loop-i.start c.loop-i-test.true in (
-      simp length-set c.loop-i.invariant.0,
-      omega arith,
-      named_more (g.G.Grammar.model c.args.grammar.now) c.args.contents.now.bytes.now
-          c.args.contents.now.pieces.now c.loop-i.i c.loop-i.start c.loop-i-test.true c.loop-i.list
-          c.in-Some.terminal _ (omega arith) c.in-Some.ensures c.loop-i.invariant.2,
-    )
-
-pub returns : goal.returns
-returns g c = named_all (g.G.Grammar.model c.args.grammar.now) (drop c.loop-i.start c.args.contents.now.bytes.now)
-    c.args.contents.now.pieces.now c.loop-i.i c.loop-i.list _ (omega arith) c.loop-i.invariant.2
+pub loop-bytes-init : goal.loop-bytes-init
+loop-bytes-init g c =
+    let all = ap parts_left c.into_iter-bytes-iterator.ensures.into_iter_gives ∙ c.parts-bytes-items.ensures in
+    let l = ap length all ∙ parts-long c.args.contents.now.bytes.now c.args.contents.now.pieces.now in
+    let e = ap length c.new-list.ensures in
+    record {
+      count = omega arith;
+      named = named_first (g.G.Grammar.model c.args.grammar.now) _ _ _ _ c.new-list.ensures all;
+    }

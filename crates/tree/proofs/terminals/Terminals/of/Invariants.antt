@@ -1,14 +1,13 @@
-use Rattle.std.proofs.Common.{◌≡◌, ◌+◌, length, take, drop}
-use Rattle.tree.specs.Pieces.{total}
+use Rattle.std.proofs.Common.{◌≡◌, ◌+◌, length}
+use Rattle.tree.specs.Parts.{parts_left}
 use Rattle.tree.specs.Terminals.{terminals_of}
-use Rattle.tree.proofs.Naming.{behind}
+use Rattle.tree.proofs.Naming.{behind, naming}
 use Rattle.tree.proofs.terminals.Terminals.of.Given as goal
 
-abbrev pub invariant-loop-i : goal.invariant-loop-i
-invariant-loop-i g l =
-    (length l.list ≡ 128)
-    × (l.start + total (drop l.i l.contents.pieces.now) ≡ length l.contents.bytes.now)
-    × (behind (take l.i l.list)
-    (terminals_of (g.G.Grammar.model l.grammar) (drop l.start l.contents.bytes.now)
-    (drop l.i l.contents.pieces.now)) ≡ terminals_of (g.G.Grammar.model l.grammar) l.contents.bytes.now
-    l.contents.pieces.now)
+abbrev pub invariant-loop-bytes : goal.invariant-loop-bytes
+invariant-loop-bytes g l =
+    record {
+      count : length l.list.items + length (parts_left l.bytes-iterator) ≡ length l.contents.pieces.now;
+      named : behind l.list.items (naming (g.G.Grammar.model l.grammar) (parts_left l.bytes-iterator))
+          ≡ terminals_of (g.G.Grammar.model l.grammar) l.contents.bytes.now l.contents.pieces.now;
+    }

@@ -4,20 +4,11 @@ use Rattle.grammar.specs.Model.{Model}
 use Rattle.tree.specs.Covering.{Blocked}
 use Rattle.tree.specs.Slots.{frame_slots, rest_slots}
 use Rattle.tree.specs.Walks.{pending, rules_left, terminals_left, waiting_slots}
-use Rattle.tree.proofs.Walking.{at_end, too_high, at_other, same_on, still_on, first_slot}
+use Rattle.tree.proofs.Walking.{too_high, at_other, still_on, first_slot}
 use Rattle.tree.proofs.walk.Walk.next.Goals as goal
 
-pub returns-in_default : goal.returns-in_default
-returns-in_default g c =
-    let w = c.args.self.now in
-    let opened = c.in_default.ensures in
-    record {
-      same = opened.still.same;
-      next = at_end _ c.args.column w c.open.new.self opened.still _ c.end.result opened.slots c.end.ensures;
-    }
-
-pub returns-in_err-keep : goal.returns-in_err-keep
-returns-in_err-keep g c =
+pub returns-in_err-keep-clause-next : goal.returns-in_err-keep-clause-next
+returns-in_err-keep-clause-next g c =
     let p = err_from_is_err_and c.from_residual.result c.from_residual.ensures.1 in
     let w = c.args.self.now in
     let v = c.open.new.self in
@@ -27,13 +18,10 @@ returns-in_err-keep g c =
     = first_slot (pending w c.args.column) (frame_slots c.in-Some.frame) (rest_slots c.split-rest.result.1)
     (waiting_slots v) _ opened.slots c.split-rest.ensures in
     rw (p.1, p.2)
-    record {
-      same = same_on w v c.keep.new.self opened.still.same keep.still.same;
-      next = (keep.slots.0, too_high _ c.args.column w v opened.still _ _ first keep.slots.1);
-    }
+    (keep.slots.0, too_high _ c.args.column w v opened.still _ _ first keep.slots.1)
 
-pub returns-in_err-cover : goal.returns-in_err-cover
-returns-in_err-cover g c =
+pub returns-in_err-cover-clause-next : goal.returns-in_err-cover-clause-next
+returns-in_err-cover-clause-next g c =
     let p = err_from_is_err_and c.from_residual-in_err-cover.result c.from_residual-in_err-cover.ensures.1 in
     let w = c.args.self.now in
     let v = c.open.new.self in
@@ -49,7 +37,4 @@ returns-in_err-cover g c =
     let blocked
     = subst (λ (G : Model). Blocked G c.split-rest.result.0.symbol (rules_left u) (terminals_left u)) model cover.takes.1 in
     rw (p.1, p.2)
-    record {
-      same = same_on w u c.cover.new.self still.same cover.same;
-      next = (cover.takes.0, at_other _ c.args.column w u still _ _ first blocked);
-    }
+    (cover.takes.0, at_other _ c.args.column w u still _ _ first blocked)
