@@ -1,5 +1,6 @@
--- What comes out of laying a tree out: one thing.
-use Rattle.std.proofs.Common.{◌≡◌, ℕ, ◌<◌, ◌≤◌, List, [], ◌∷◌, ◌++◌, Some, Ok, Err, Result, sym, refl, ap, ◌∙◌, subst, arith}
+-- What comes out of laying a tree out: one thing, with a placement for each piece.
+use Rattle.std.proofs.Common.{◌≡◌, ℕ, suc, ◌<◌, ◌≤◌, List, [], ◌∷◌, ◌++◌, length, Some, Ok, Err, Result, sym, refl, ap, ◌∙◌}
+use Rattle.std.proofs.Common.{subst, arith}
 use Rattle.faults.specs.declared.fault.Fault.{Fault}
 use Rattle.grammar.specs.declared.rule.Rule.{Rule}
 use Rattle.grammar.specs.Model.{Model}
@@ -19,7 +20,28 @@ pub prefixed_ok : (p : Placement) (out : Result (List Placement) Fault) (ps : Li
 prefixed_ok p (Ok qs) ps e = (qs, refl, cc)
 prefixed_ok p (Err f) ps e = cc
 
+prefixed-long : (p : Placement) (out : Result (List Placement) Fault) (qs : List Placement) (n : ℕ)
+    → ((us : List Placement) → out ≡ Ok us → length us ≡ n) → prefixed (p ∷ []) out ≡ Ok qs → length qs ≡ suc n
+prefixed-long p (Ok us) qs n long e =
+    let s : qs ≡ p ∷ us = cc in
+    let l = long us refl in
+    let m = ap length s in
+    omega arith
+prefixed-long p (Err f) qs n long e = let z : ◌≡◌ {A = ℕ} 0 1 = cc in absurd (omega arith)
+
 module _ (G : Model) (P : Question → Answer) where
+  pub lays-long : {line : Line} {ss : List Slot} {rs ls : List ℕ} {out : Result (List Placement) Fault} → Lays G P line ss rs ls out
+      → (qs : List Placement) → out ≡ Ok qs → length qs ≡ length ls
+  lays-long end qs e = let s : qs ≡ [] = cc in ap length s
+  lays-long (deep high) qs e = let z : ◌≡◌ {A = ℕ} 0 1 = cc in absurd (omega arith)
+  lays-long (piece {ls = ls} {out = out} is low symbol rest all) qs e
+      = prefixed-long _ out qs (length ls) (λ us o. lays-long rest us o) (sym all ∙ e)
+  lays-long (node is low symbol known rest) qs e = lays-long rest qs e
+
+  pub lays_out_long : (rules ls : List ℕ) (qs : List Placement) → LaysOut G P rules ls (Ok qs) → length qs ≡ length ls
+  lays_out_long [] ls qs l = absurd l
+  lays_out_long (r ∷ rs) ls qs l = lays-long l.2 qs refl
+
   -- an answer is not both above 63 and not
   torn : (line : Line) (s : Slot) (a : Answer) → a ≡ answer_of P line.cursor s → a.column ≤ 63
       → 63 < (answer_of P line.cursor s).column → ⊥

@@ -1,8 +1,8 @@
 ghost use Rattle.std.specs.Prelude.{◌≡◌, length};
 ghost use Rattle.tree.specs.Forest.{Tree};
-ghost use Rattle.tree.specs.Terminals.{listed};
+ghost use Rattle.tree.specs.Terminals.{listed as terminals_of};
 ghost use Rattle.tree.specs.Walks.{rules_of};
-ghost use Rattle.layout.specs.Layouts.{ComesOut, lengths, outcome};
+ghost use Rattle.layout.specs.Layouts.{ComesOut, lengths, listed, outcome};
 ghost use Rattle.layout.specs.Placers.{Putting, Within};
 
 use crate::answer::settle;
@@ -32,6 +32,13 @@ impl Placer {
         }
         Ok(answer.column)
     }
+
+    // Just the placements so far.
+    fn layout(self) -> Layout
+        ensures { listed result ≡ self.list.items }
+    {
+        Layout { list: self.list }
+    }
 }
 
 // Places the pieces of a tree, which its rule numbers give over just these terminals.
@@ -41,8 +48,8 @@ pub(crate) fn place<'a, G: Grammar, P: Policy>(
     contents: &'a Contents<'a>,
     terminals: &'a Terminals,
 ) -> Result<Layout, Fault>
-    requires tree { Tree (G.model grammar.now) (rules_of contents.now.nodes.now) (listed terminals.now) }
-    requires same { length (listed terminals.now) ≡ length contents.now.pieces.now }
+    requires tree { Tree (G.model grammar.now) (rules_of contents.now.nodes.now) (terminals_of terminals.now) }
+    requires same { length (terminals_of terminals.now) ≡ length contents.now.pieces.now }
     ensures { ComesOut (G.model grammar.now) (P.answers policy.now)
         (rules_of contents.now.nodes.now) (lengths contents.now.pieces.now) (outcome result) }
 {
@@ -52,5 +59,5 @@ pub(crate) fn place<'a, G: Grammar, P: Policy>(
     while let Some(step) = walk.next(column)? {
         column = placer.put(policy, &step, contents)?;
     }
-    Ok(Layout { list: placer.list })
+    Ok(placer.layout())
 }

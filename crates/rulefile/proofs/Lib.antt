@@ -3,6 +3,7 @@ pub mod Alike
 pub mod Begun
 pub mod Bounded
 pub mod Built
+pub mod Counted
 pub mod Cutting
 pub mod Distinct
 pub mod Finished

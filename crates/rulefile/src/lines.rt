@@ -18,11 +18,14 @@ pub(crate) fn all_allowed(file: &[u8]) -> bool
 }
 
 impl Header<'_> {
-    // Whether a line has this fault.
+    // Whether a line has this fault. Whether values are missing is told before they are read.
     fn fails(&self, fault: LineFault, line: &[u8]) -> bool
         ensures { result ≡ fails fault (row_of self.now.names.now line.now) }
     {
-        self.row(line).is_err_and(|found| found == fault)
+        match fault {
+            LineFault::Count => !parts::has_seven_values(line),
+            LineFault::Form | LineFault::Gap => self.row(line).is_err_and(|found| found == fault),
+        }
     }
 
     // The number of the first line that has this fault; the lines begin with number 2.

@@ -1,4 +1,4 @@
-ghost use Rattle.std.specs.Prelude.{◌≡◌, [], length, MatchOption};
+ghost use Rattle.std.specs.Prelude.{◌≡◌, ◌==◌, [], length, MatchOption};
 ghost use Rattle.std.specs.Iterator.{YieldsFirstRef, item_count};
 ghost use Rattle.std.specs.List.{list_all};
 ghost use Rattle.rulefile.specs.Parts.{Splits, parts, filled, values, ends_with, seven_values, seven_names, among};
@@ -59,19 +59,6 @@ pub(crate) fn values(line: &[u8]) -> Parts<'_>
     }
 }
 
-// Whether no value of a line is empty.
-fn are_filled(line: &[u8]) -> bool
-    ensures { result ≡ list_all filled (values line.now) }
-{
-    values(line).all(|value| !value.is_empty())
-}
-
-fn count_values(line: &[u8]) -> usize
-    ensures { result ≡ length (values line.now) }
-{
-    values(line).count()
-}
-
 fn ends_with_space(line: &[u8]) -> bool
     ensures { result ≡ ends_with 32 line.now }
 {
@@ -82,7 +69,15 @@ fn ends_with_space(line: &[u8]) -> bool
 pub(crate) fn has_seven_values(line: &[u8]) -> bool
     ensures { result ≡ seven_values line.now }
 {
-    are_filled(line) && count_values(line) == 7 && !ends_with_space(line)
+    // One walk and no chain, since a line may be long; it ends at the first empty value, and at the eighth.
+    let mut count = 0usize;
+    for value in values(line) {
+        if value.is_empty() || count == 7 {
+            return false;
+        }
+        count += 1;
+    }
+    count == 7 && !ends_with_space(line)
 }
 
 // Whether a name is among the values of a line.

@@ -2,22 +2,23 @@
 
 #![tactic(auto)]
 
+mod input;
 mod listing;
 
 use listing::Listing;
 use rulefile::loaded::LoadedGrammar;
 use std::io;
-use std::io::Read;
 use std::process::ExitCode;
 
 // One byte more than the longest rule file that is accepted.
-const LIMIT: u64 = 4097;
+const LIMIT: usize = 4097;
 
 // Prints what the rule file means, or why it is refused, with exit status 1.
 fn main(rt: HostRuntime) -> io::Result<ExitCode> {
-    let mut file = Vec::new(rt.alloc());
-    rt.stdin().take(LIMIT).read_to_end(&mut file)?;
-    match LoadedGrammar::load(file.as_slice()) {
+    // Read without a heap, so that no file is refused for want of memory.
+    let mut file = [0; LIMIT];
+    let length = input::read_up_to(&rt, &mut file)?;
+    match LoadedGrammar::load(&file[..length]) {
         Ok(grammar) => {
             let listing = Listing {
                 rt: &rt,

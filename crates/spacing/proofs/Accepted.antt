@@ -1,19 +1,22 @@
 -- The tokens of an accepted text are pieces by themselves.
-use Rattle.std.proofs.Common.{◌≡◌, ℕ, ◌+◌, true, false, cond, List, [], ◌∷◌, length, take, drop, Some, None, Option, sym, refl, ap, ◌∙◌}
-use Rattle.std.proofs.Common.{subst, inl, inr}
-use Rattle.std.specs.List.{AllByRecursion}
+use Rattle.std.proofs.Common.{◌≡◌, ℕ, ◌+◌, true, false, cond, List, [], ◌∷◌, map, length, take, drop, Some, None, Option, sym, refl, ap}
+use Rattle.std.proofs.Common.{◌∙◌, subst, inl, inr, arith}
+use Rattle.std.specs.List.{flat_map, AllByRecursion}
 use Rattle.std.specs.Option.{option_map, option_to_list}
-use Rattle.std.proofs.ByRecursion.{All-append}
-use Rattle.std.proofs.lemmas.List.{take_at, drop_at, drop-drop}
+use Rattle.std.proofs.ByRecursion.{All-append, All-weaker}
+use Rattle.std.proofs.lemmas.List.{take_at, drop_at, drop-drop, length-take-le, length-drop}
 use Rattle.std.proofs.lemmas.Bool.Decides.{leb_tells}
 use Rattle.pieces.specs.Alone.{one_piece}
 use Rattle.pieces.specs.Pieces.{Place, Found, Reads, Cutting, Cut}
 use Rattle.grammar.specs.Model.{Model, terminal_of}
 use Rattle.text.specs.declared.token.Token.{Token}
 use Rattle.text.specs.Verdict.{accepted, out_of_bounds, token, token_with, tokens_of, verdict_on, Judged}
-use Rattle.text.proofs.Places.{accepted-tokens}
+use Rattle.text.proofs.Places.{Inside, accepted-inside, accepted-tokens}
+use Rattle.tree.specs.declared.piece.PieceRecord.{PieceRecord}
+use Rattle.tree.specs.Pieces.{all_one_piece}
 use Rattle.spacing.specs.Again.{bytes_at}
 use Rattle.spacing.proofs.Alone.{alone}
+use Rattle.spacing.proofs.Joins.{joined_alone}
 
 -- a piece's bytes stand in the text where the piece does
 abbrev pub InPlace : List ℕ → Found → Type 0
@@ -72,3 +75,16 @@ accepted-alone G text ts j = elim (leb_tells (length text) 12288) [
       let e = j.long p.1 in
       cc
 ]
+
+-- the same for their bytes without gaps, with records of their lengths
+pub accepted_joined : (G : Model) (text : List ℕ) (ts : List Token) (record_of : Token → PieceRecord)
+    → ((t : Token) → (record_of t).length ≡ t.length) → Judged G text (accepted ts)
+    → all_one_piece (flat_map (bytes_at text) ts) (map record_of ts) ≡ true
+accepted_joined G text ts record_of same j =
+    joined_alone (bytes_at text) record_of ts
+    (All-weaker (Inside (length text)) (λ t. length (bytes_at text t) ≡ (record_of t).length)
+    (λ t inside.
+    let d = length-drop t.start text in
+    length-take-le t.length (drop t.start text) (omega (arith, inside.1)) ∙ sym (same t))
+    ts (accepted-inside G text ts j))
+    (accepted-alone G text ts j)

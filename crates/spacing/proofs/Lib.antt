@@ -1,6 +1,7 @@
 pub mod Accepted
 pub mod Alone
 pub mod Cuts
+pub mod Joins
 pub mod Judges
 pub mod Laid
 pub mod Reading

@@ -100,5 +100,5 @@ pub fn scan<G: Grammar>(g: &G, text: &[u8]) -> Result<Tokens, Fault>
         notes.add(g, piece);
     }
     let list = notes.verdict()?;
-    Ok(Tokens { list })
+    Ok(Tokens::new(list))
 }

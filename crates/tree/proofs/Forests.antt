@@ -1,5 +1,5 @@
 -- Laws of forests: how they end, how long they are, what stops them.
-use Rattle.std.proofs.Common.{◌≡◌, ℕ, ◌≤◌, List, ◌∷◌, ◌++◌, length, Some, sym, refl, ◌∙◌, subst, arith}
+use Rattle.std.proofs.Common.{◌≡◌, ℕ, ◌≤◌, List, [], ◌∷◌, ◌++◌, length, Some, sym, refl, ◌∙◌, subst, arith}
 use Rattle.std.specs.List.{slice_get}
 use Rattle.std.proofs.lemmas.List.{length-append}
 use Rattle.grammar.specs.declared.rule.Symbol.{Symbol}
@@ -20,6 +20,9 @@ some-items (Two x y) = omega arith
 some-items (Three x y z) = omega arith
 
 module _ {G : Model} where
+  pub ended : {rs ts : List ℕ} → Forest G [] rs ts → (rs ≡ []) × (ts ≡ [])
+  ended none = (refl, refl)
+
   -- each item covers a piece at least
   pub covers : {xs : List Item} {rs ts : List ℕ} → Forest G xs rs ts → length xs ≤ length ts
   covers none = omega arith

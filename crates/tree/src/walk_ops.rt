@@ -1,4 +1,4 @@
-ghost use Rattle.std.specs.Prelude.{◌≡◌, IfOk, None};
+ghost use Rattle.std.specs.Prelude.{◌≡◌, IfOk, IfErr, None};
 ghost use Rattle.grammar.specs.declared.rule.Symbol.TheVariants.{Terminal, Nonterminal};
 ghost use Rattle.tree.specs.Covering.{Covers, Ends, Enters, Goes, Keeps, Opens, Still};
 ghost use Rattle.tree.specs.Terminals.{listed};
@@ -92,6 +92,7 @@ impl<'a, G: Grammar> Walk<'a, G> {
     // Comes to the next node and answers the nonterminal on the left of its rule.
     fn enter(&mut self) -> Result<u8, Fault>
         ensures goes { Goes self.old self.new }
+        ensures kept { IfErr result (λ _. self.new ≡ self.old) }
         ensures enters { Enters (G.model self.old.grammar.now) self.old self.new result }
     {
         let (node, rest) = self.nodes.split_first().ok_or(Fault::GrammarMismatch)?;
@@ -120,17 +121,21 @@ impl<'a, G: Grammar> Walk<'a, G> {
         }
     }
 
-    // Takes the next node, which should have that symbol on the left of its rule.
+    // Takes the next node, which should have that symbol on the left of its rule; a node that is refused is still to come.
     fn take_node(&mut self, left: u8) -> Result<(), Fault>
+        requires { self.old.entered ≡ None }
         ensures goes { Goes self.old self.new }
+        ensures kept { IfErr result (λ _. self.new ≡ self.old) }
         ensures takes { Covers (G.model self.old.grammar.now) (Nonterminal left)
             self.old self.new result }
     {
+        let nodes = self.nodes;
         if self.enter()? == left {
-            Ok(())
-        } else {
-            Err(Fault::GrammarMismatch)
+            return Ok(());
         }
+        self.nodes = nodes;
+        self.entered = None;
+        Err(Fault::GrammarMismatch)
     }
 
     // Takes the piece or the node that comes next, which should be what the symbol stands for.

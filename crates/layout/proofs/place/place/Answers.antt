@@ -77,4 +77,4 @@ returns g c =
     let placer = c.loop-step.placer in
     let ended = at_last G column w v _ c.in_default.is answer in
     let laid = all_laid G P rules ls w column placer ended (same ∙ sym long) (omega arith) c.loop-step.invariant.5 in
-    comes_out G P rules ls _ laid
+    rw c.layout.ensures (comes_out G P rules ls _ laid)

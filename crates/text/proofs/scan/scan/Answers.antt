@@ -90,29 +90,31 @@ returns-in_err-list-clause-judged g c =
     (exactly G text _ (read_through G text c.loop-piece.reader inv.0 inv.1.0 inv.1.1 c.next_piece.new.self _ c.in_default.is
     c.in_ok-piece.ensures _ (c.in_err-list.ensures G inv.1.0 inv.1.2)))
 
-pub invariant_of-result : goal.invariant_of-result
-invariant_of-result g c =
+pub new-requires : goal.new-requires
+new-requires g c =
     let inv = c.loop-piece.invariant in
     let G = g.G.Grammar.model c.args.g.now in
     let text = c.args.text.now in
-    let judged = read_through G text c.loop-piece.reader inv.0 inv.1.0 inv.1.1 c.next_piece.new.self _ c.in_default.is
-    c.in_ok-piece.ensures _ (c.in_ok-list.ensures G inv.1.0 inv.1.2) in
-    record { few = accepted-few G text _ judged }
+    accepted-few G text _
+    (read_through G text c.loop-piece.reader inv.0 inv.1.0 inv.1.1 c.next_piece.new.self _ c.in_default.is
+    c.in_ok-piece.ensures _ (c.in_ok-list.ensures G inv.1.0 inv.1.2))
 
 pub returns-clause-inside : goal.returns-clause-inside
 returns-clause-inside g c =
     let inv = c.loop-piece.invariant in
     let G = g.G.Grammar.model c.args.g.now in
     let text = c.args.text.now in
-    accepted-inside G text _
+    rw c.new.ensures
+    (accepted-inside G text _
     (read_through G text c.loop-piece.reader inv.0 inv.1.0 inv.1.1 c.next_piece.new.self _ c.in_default.is
-    c.in_ok-piece.ensures _ (c.in_ok-list.ensures G inv.1.0 inv.1.2))
+    c.in_ok-piece.ensures _ (c.in_ok-list.ensures G inv.1.0 inv.1.2)))
 
 pub returns-clause-judged : goal.returns-clause-judged
 returns-clause-judged g c =
     let inv = c.loop-piece.invariant in
     let G = g.G.Grammar.model c.args.g.now in
     let text = c.args.text.now in
-    exactly G text _
+    rw c.new.ensures
+    (exactly G text _
     (read_through G text c.loop-piece.reader inv.0 inv.1.0 inv.1.1 c.next_piece.new.self _ c.in_default.is
-    c.in_ok-piece.ensures _ (c.in_ok-list.ensures G inv.1.0 inv.1.2))
+    c.in_ok-piece.ensures _ (c.in_ok-list.ensures G inv.1.0 inv.1.2)))
