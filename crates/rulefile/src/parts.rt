@@ -1,7 +1,6 @@
-ghost use Rattle.std.specs.Prelude.{◌≡◌, ◌==◌, [], length, MatchOption};
+ghost use Rattle.std.specs.Prelude.{◌≡◌, [], MatchOption};
 ghost use Rattle.std.specs.Iterator.{YieldsFirstRef, item_count};
-ghost use Rattle.std.specs.List.{list_all};
-ghost use Rattle.rulefile.specs.Parts.{Splits, parts, filled, values, ends_with, seven_values, seven_names, among};
+ghost use Rattle.rulefile.specs.Parts.{Splits, parts, values, ends_with, seven_values, seven_names, among};
 
 // The parts of some bytes that are left: what ends at a separator, or at the end unless nothing is left there.
 #[derive(Drop)]
